@@ -1,0 +1,7 @@
+pub mod Changes
+pub mod Each
+pub mod Edits
+pub mod Entries
+pub mod Found
+pub mod Pieces
+pub mod Ranges
