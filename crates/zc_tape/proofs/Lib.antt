@@ -1,0 +1,15 @@
+pub mod Places
+pub mod Held
+pub mod Moments
+pub mod CrashKinds
+pub mod Extends
+pub mod EachCrash
+pub mod Images
+pub mod Replay
+pub mod Plans
+pub mod ReadsAfter
+pub mod PlayWrites
+pub mod GroupLaw
+pub mod Performed
+pub mod Leave
+pub mod Unwritten

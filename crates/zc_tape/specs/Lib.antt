@@ -1,0 +1,9 @@
+pub mod Cause
+pub mod Tape
+pub mod Crash
+pub mod Plays
+pub mod DiskCall
+pub mod After
+pub mod Blocks
+pub mod Memory
+pub mod LastSync
