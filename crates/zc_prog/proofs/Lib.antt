@@ -1,0 +1,11 @@
+pub mod Written
+pub mod Lines
+pub mod BodyBytes
+pub mod Streams
+pub mod Held
+pub mod Acts
+pub mod Outcome
+pub mod Roots
+pub mod CommitLaw
+pub mod Slots
+pub mod LastWriteLaws

@@ -1,0 +1,16 @@
+pub mod State
+pub mod PlayWords
+pub mod Line
+pub mod PlainFile
+pub mod Script
+pub mod Input
+pub mod Output
+pub mod Body
+pub mod Root
+pub mod Commit
+pub mod Session
+pub mod Ended
+pub mod Pooled
+pub mod Play
+pub mod Slot
+pub mod LastWritten
