@@ -2,13 +2,12 @@
 ghost use Rattle.std.specs.Prelude.{◌<◌};
 
 use crate::play::play;
-use crate::root::opened;
 use std::alloc::Global;
 use std::process::Abort;
 use std::test::Fail;
-use zc_io::{MemoryShelf, MemorySink, MemorySource};
+use zc_io::{MemoryShelf, MemorySink, MemorySource, Shelf};
 use zc_num::Name;
-use zc_tape::MemoryDisks;
+use zc_tape::{DiskSet, MemoryDisks};
 
 const FIRST: &[u8] =
     b"write tank/d/f 0 68656c6c6f\nread tank/d/f 0 100\nread tank/d/f 5 1\ncommit tank\n";
@@ -119,16 +118,37 @@ fn refuses_bad_words_and_bad_lines(rt: HostRuntime) -> Result<(), Fail> {
     Ok(())
 }
 
+// The same set with zeros in the first eight bytes of both bodies.
+fn without_magic(alloc: Global, mut disks: MemoryDisks) -> Result<MemoryDisks, Fail> {
+    let mut changed = MemoryDisks::new(alloc, 1, 1024, &[])?;
+    let mut block = [0u8; 4096];
+    if disks.places() == 1024 && disks.devices() == 1 {
+        for place in 0..4 {
+            let _ = disks.read(0, place, &mut block);
+            if place % 2 == 0 {
+                block[..8].copy_from_slice(&[0; 8]);
+            }
+            changed.put(0, place, &block);
+        }
+    }
+    Ok(changed)
+}
+
 #[test]
 fn tells_a_set_that_holds_no_pool(rt: HostRuntime) -> Result<(), Fail> {
     let alloc = rt.alloc();
     let name = tank(alloc)?;
     let mut shelf = MemoryShelf::new(alloc, &[])?;
-    let mut disks = MemoryDisks::new(alloc, 1, 1024, &[])?;
-    disks.put(0, 1, &opened());
-    disks.put(0, 3, &opened());
-    assert!(rt; shelf.put(&name, disks).is_ok());
-    let none = play_tank(alloc, FIRST, &mut shelf)?;
+    let _ = play_tank(alloc, FIRST, &mut shelf)?;
+    let third = play_tank(alloc, b"", &mut shelf)?;
+    expect(&rt, &third, 0, b"end tank group 3\n");
+
+    // Both gates are open now; without its magic neither body is one.
+    let disks = shelf.take(&name).expect(&rt, "the set lies there");
+    let disks = without_magic(alloc, disks)?;
+    let mut other = MemoryShelf::new(alloc, &[])?;
+    assert!(rt; other.put(&name, disks).is_ok());
+    let none = play_tank(alloc, FIRST, &mut other)?;
     expect(&rt, &none, 7, b"no pool tank\n");
     Ok(())
 }
