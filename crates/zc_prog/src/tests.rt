@@ -122,14 +122,17 @@ fn refuses_bad_words_and_bad_lines(rt: HostRuntime) -> Result<(), Fail> {
 fn without_magic(alloc: Global, mut disks: MemoryDisks) -> Result<MemoryDisks, Fail> {
     let mut changed = MemoryDisks::new(alloc, 1, 1024, &[])?;
     let mut block = [0u8; 4096];
-    if disks.places() == 1024 && disks.devices() == 1 {
-        for place in 0..4 {
-            let _ = disks.read(0, place, &mut block);
-            if place % 2 == 0 {
-                block[..8].copy_from_slice(&[0; 8]);
-            }
-            changed.put(0, place, &block);
-        }
+    if disks.devices() == 1 && disks.places() == 1024 {
+        let _ = disks.read(0, 0, &mut block);
+        block[..8].copy_from_slice(&[0; 8]);
+        changed.put(0, 0, &block);
+        let _ = disks.read(0, 1, &mut block);
+        changed.put(0, 1, &block);
+        let _ = disks.read(0, 2, &mut block);
+        block[..8].copy_from_slice(&[0; 8]);
+        changed.put(0, 2, &block);
+        let _ = disks.read(0, 3, &mut block);
+        changed.put(0, 3, &block);
     }
     Ok(changed)
 }
