@@ -36,7 +36,8 @@ impl<'a> Cursor<'a> {
 
     /// How many bytes are read so far.
     pub fn at(&self) -> u64
-        ensures { result ≡ self.now.at }
+        ensures value { result ≡ self.now.at }
+        ensures bounded { result + length self.now.left < 2 ^ 63 }
     {
         self.at
     }
