@@ -1,5 +1,6 @@
 // Runs of the top call over a source, a sink and a shelf in memory.
-ghost use Rattle.std.specs.Prelude.{◌<◌};
+ghost use Rattle.std.specs.Prelude.{◌≡◌, ◌<◌, [], IfOk};
+ghost use Rattle.zc_tape.specs.Memory.{tape_of};
 
 use crate::play::play;
 use std::alloc::Global;
@@ -119,7 +120,9 @@ fn refuses_bad_words_and_bad_lines(rt: HostRuntime) -> Result<(), Fail> {
 }
 
 // The same set with zeros in the first eight bytes of both bodies.
-fn without_magic(alloc: Global, mut disks: MemoryDisks) -> Result<MemoryDisks, Fail> {
+fn without_magic(alloc: Global, mut disks: MemoryDisks) -> Result<MemoryDisks, Fail>
+    ensures { IfOk result (λ set. (tape_of set).calls ≡ []) }
+{
     let mut changed = MemoryDisks::new(alloc, 1, 1024, &[])?;
     let mut block = [0u8; 4096];
     if disks.devices() == 1 && disks.places() == 1024 {
