@@ -1,1 +1,2 @@
+pub mod PtrLaws
 pub mod Spelling

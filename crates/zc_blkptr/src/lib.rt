@@ -15,5 +15,5 @@ mod writing;
 
 pub use digest::{digest_of, matches};
 pub use ptr::{Ptr, Slot};
-pub use reading::{BadPtr, decode};
+pub use reading::{BadPtr, decode, ptr_field};
 pub use writing::encode;

@@ -1,12 +1,14 @@
 // The slot that bytes spell.
 ghost use Rattle.std.specs.Prelude.{◌≡◌, ◌↔◌, length, IfOk, IsOk, IsErr, IsTrue};
 ghost use Rattle.zc_blkptr.specs.declared.ptr.Slot.{Slot};
+ghost use Rattle.zc_wire.specs.Fields.{Gives};
 ghost use Rattle.zc_blkptr.specs.Ptr.{ptr_bytes, hole_bytes, slot_bytes, HasWidths, IsPtr, IsSlot};
+ghost use Rattle.zc_blkptr.specs.PtrField.{ptr_in, is_ptr, ptr_field};
 
 use crate::writing::hole;
 use crate::{Ptr, Slot};
 use zc_num::Limits;
-use zc_wire::{Cursor, WireFault};
+use zc_wire::{Cursor, FieldFault, WireFault, bytes_field, rule};
 
 /// The bytes are in no spelling of a slot.
 #[derive(Clone, Copy, Debug, PartialEq, Eq)]
@@ -27,6 +29,31 @@ pub fn decode(bytes: &[u8; 40], limits: &Limits) -> Result<Slot, BadPtr>
         Ok(Slot::At(ptr))
     } else {
         Err(BadPtr)
+    }
+}
+
+/// A pointer that a pool of this size may have, which is no hole, and the bytes behind it. All its bytes are one field.
+#[tactic(auto, unfolding(crate::specs::PtrField::ptr_field))]
+pub fn ptr_field<'a>(bytes: &'a [u8], limits: &Limits) -> Result<(Ptr, &'a [u8]), FieldFault>
+    ensures { Gives (λ x. (x.0, x.1.now)) result (ptr_field limits.now.devices limits.now.places bytes.now) }
+{
+    let (whole, rest) = bytes_field(bytes, 40)?;
+    let ptr = raw_ptr(whole);
+    rule(is_ptr(&ptr, limits), bytes)?;
+    Ok((ptr, rest))
+}
+
+// The pointer whose fields stand in these bytes, which may be one that no pool has.
+fn raw_ptr(bytes: &[u8]) -> Ptr
+    requires { length bytes.now ≡ 40 }
+    ensures fields { result ≡ ptr_in bytes.now }
+    ensures widths { HasWidths result }
+{
+    let mut array = [0u8; 40];
+    array.copy_from_slice(bytes);
+    match ptr_in(&array) {
+        Ok(ptr) => ptr,
+        Err(_) => unreachable!(),
     }
 }
 
@@ -77,7 +104,8 @@ fn digest_in(bytes: &[u8]) -> [u8; 16]
 // Whether a pool of this size may have the pointer.
 fn is_ptr(ptr: &Ptr, limits: &Limits) -> bool
     requires { HasWidths ptr.now }
-    ensures { IsTrue result ↔ IsPtr limits.now.devices limits.now.places ptr.now }
+    ensures pool { IsTrue result ↔ IsPtr limits.now.devices limits.now.places ptr.now }
+    ensures test { result ≡ is_ptr limits.now.devices limits.now.places ptr.now }
 {
     ptr.device < limits.devices()
         && ptr.place < limits.places()

@@ -2,7 +2,9 @@
 ghost use Rattle.std.specs.Prelude.{◌≡◌, ◌↔◌, IsTrue};
 
 use super::*;
+use std::test::Fail;
 use zc_num::Limits;
+use zc_wire::FieldFault;
 
 // The pointer to place 68 of device 0 that came into its file in group 3; group 2 wrote the block `abc`.
 const PTR: Ptr = Ptr {
@@ -104,6 +106,22 @@ fn each_bound_holds_from_both_sides(rt: HostRuntime) {
             "at {devices} {device} {place} {logical} {physical}"
         );
     }
+}
+
+#[test]
+fn a_pointer_is_a_field_of_forty_bytes(rt: HostRuntime) -> Result<(), Fail> {
+    let limits = Limits::of(1, 1024).ok_or("limits")?;
+    let mut bytes = [9u8; 42];
+    bytes[..40].copy_from_slice(&BYTES);
+    assert!(rt; ptr_field(&bytes, &limits) == Ok((PTR, &[9, 9][..])));
+    assert!(rt; ptr_field(&BYTES, &limits) == Ok((PTR, &[][..])));
+    // A field that is cut or that breaks a rule is refused from its first byte on, and so is a hole.
+    assert!(rt; ptr_field(&BYTES[..39], &limits) == Err(FieldFault::Bad { left: 39 }));
+    assert!(rt; ptr_field(&[], &limits) == Err(FieldFault::Bad { left: 0 }));
+    assert!(rt; ptr_field(&[0; 42], &limits) == Err(FieldFault::Bad { left: 42 }));
+    bytes[7] = 67;
+    assert!(rt; ptr_field(&bytes, &limits) == Err(FieldFault::Bad { left: 42 }));
+    Ok(())
 }
 
 #[test]

@@ -17,6 +17,6 @@ mod tests;
 mod text;
 
 pub use command::Command;
-pub use name::{MOST_NAME, has_name_bytes, is_name, is_name_byte};
+pub use name::{MOST_NAME, are_name_bytes, has_name_bytes, is_name, is_name_byte};
 pub use refusal::{Part, Refusal, What};
 pub use reply::Reply;

@@ -18,7 +18,8 @@ pub fn is_name_byte(byte: u8) -> bool
         || byte == b'.'
 }
 
-fn are_name_bytes(bytes: &[u8]) -> bool
+/// Whether all of the bytes may stand in a name.
+pub fn are_name_bytes(bytes: &[u8]) -> bool
     ensures { result ≡ list_all is_name_byte bytes.now }
 {
     bytes.iter().all(|byte| is_name_byte(*byte))

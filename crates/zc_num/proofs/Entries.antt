@@ -1,5 +1,5 @@
 -- The entries of a map from numbers, after one was put or taken: `value_at`, `insert_entry`, `remove_entry`, `Ascends`.
-use Rattle.std.proofs.Common.{◌≡◌, ◌≢◌, ◌∙◌, ◌⊎◌, ℕ, ◌<◌, true, false, cond, List, [], ◌∷◌, Some, None, refl, sym, ap, ⊎_elim, arith}
+use Rattle.std.proofs.Common.{◌≡◌, ◌≢◌, ◌∙◌, ◌⊎◌, ℕ, ◌<◌, true, false, cond, List, [], ◌∷◌, ◌++◌, Some, None, refl, sym, ap, ⊎_elim, arith}
 use Rattle.std.specs.declared.cmp.Ordering.TheVariants.{Less, Equal, Greater}
 use Rattle.std.specs.Ordering.{nat_cmp, is_eq, eq_by_cmp}
 use Rattle.std.proofs.lemmas.Bool.{cases_order, lt-ltb, le-ltb, eq-eqb, ne_eqb}
@@ -124,4 +124,13 @@ ascends_taken key (e ∷ es) ascends = elim (order_of key e.0) [
   | below less is ↦ rw is (all_taken (λ k. nat_cmp e.0 k ≡ Less) key es ascends.0, ascends_taken key es ascends.1)
   | same equal is ↦ rw is ascends.1
   | above more is ↦ rw is (all_taken (λ k. nat_cmp e.0 k ≡ Less) key es ascends.0, ascends_taken key es ascends.1)
+]
+
+-- a key above all others is put behind them
+pub put_last : {V : Type 0} (key : ℕ) (value : V) (es : List (ℕ × V)) → AllByRecursion (λ (e : ℕ × V). e.0 < key) es → insert_entry key value es ≡ es ++ (key, value) ∷ []
+put_last key value [] lower = refl
+put_last {V} key value (e ∷ es) lower = elim (order_of key e.0) [
+  | below less is ↦ absurd (omega (arith, lower.0))
+  | same equal is ↦ absurd (omega (arith, lower.0))
+  | above more is ↦ rw is (ap (λ (t : List (ℕ × V)). e ∷ t) (put_last key value es lower.1))
 ]

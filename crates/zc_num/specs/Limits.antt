@@ -1,5 +1,5 @@
 -- The limits of a pool, each by a formula over its number of devices and the number of places of each device.
-use Rattle.std.specs.Prelude.{◌≡◌, ℕ, ◌+◌, ◌-◌, ◌*◌, ◌/◌, ◌%◌, ◌<◌, ◌≤◌}
+use Rattle.std.specs.Prelude.{◌≡◌, ℕ, ◌+◌, ◌-◌, ◌*◌, ◌/◌, ◌%◌, ◌<◌, ◌≤◌, Bool, ◌==◌, ◌&&◌, nat_lt}
 
 -- a pool may have so many devices of so many places each
 pub record AreLimits (devices places : ℕ) : Type 0 where
@@ -36,3 +36,7 @@ data_places_of devices places = total_of devices places - total_of devices place
 -- the place never changes its use: it is one of the four of the roots, or of the eight log areas behind them
 abbrev pub IsFixed : ℕ → ℕ → ℕ → ℕ → Type 0
 IsFixed devices places device place = (device ≡ 0) × (place < 4 + 8 * log_places_of devices places)
+
+-- the same as a test
+abbrev pub is_fixed : ℕ → ℕ → ℕ → ℕ → Bool
+is_fixed devices places device place = (device == 0) && nat_lt place (4 + 8 * log_places_of devices places)

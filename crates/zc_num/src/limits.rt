@@ -1,5 +1,5 @@
 ghost use Rattle.std.specs.Prelude.{◌≡◌, ◌↔◌, IsTrue, IsSome, IfSome};
-ghost use Rattle.zc_num.specs.Limits.{AreLimits, total_of, files_of, pointers_of, file_bytes_of, log_places_of, data_places_of, IsFixed};
+ghost use Rattle.zc_num.specs.Limits.{AreLimits, total_of, files_of, pointers_of, file_bytes_of, log_places_of, data_places_of, IsFixed, is_fixed};
 
 /// The size of a pool, and what it limits.
 ///
@@ -85,7 +85,8 @@ impl Limits {
 
     /// Whether this is a place of a root or of a log area, which never holds another block.
     pub fn is_fixed(&self, device: u32, place: u32) -> bool
-        ensures { IsTrue result ↔ IsFixed self.now.devices self.now.places device place }
+        ensures fixed { IsTrue result ↔ IsFixed self.now.devices self.now.places device place }
+        ensures test { result ≡ is_fixed self.now.devices self.now.places device place }
     {
         device == 0 && place < 4 + 8 * self.log_places()
     }

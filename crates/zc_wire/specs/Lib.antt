@@ -1,3 +1,4 @@
 pub mod Cursor
 pub mod Fault
+pub mod Fields
 pub mod Numbers

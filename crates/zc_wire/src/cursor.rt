@@ -108,7 +108,7 @@ impl<'a> Cursor<'a> {
 
 // The number that four bytes spell.
 #[tactic(auto, unfolding(crate::specs::Numbers::u32_of))]
-fn u32_in(bytes: &[u8]) -> u32
+pub(crate) fn u32_in(bytes: &[u8]) -> u32
     requires { length bytes.now ≡ 4 }
     ensures spelled { u32_bytes result ≡ bytes.now }
     ensures value { result ≡ u32_of bytes.now }
@@ -118,7 +118,7 @@ fn u32_in(bytes: &[u8]) -> u32
 
 // The number that eight bytes spell.
 #[tactic(auto, unfolding(crate::specs::Numbers::u64_of))]
-fn u64_in(bytes: &[u8]) -> u64
+pub(crate) fn u64_in(bytes: &[u8]) -> u64
     requires { length bytes.now ≡ 8 }
     ensures spelled { u64_bytes result ≡ bytes.now }
     ensures value { result ≡ u64_of bytes.now }

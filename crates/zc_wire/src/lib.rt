@@ -7,10 +7,12 @@
 
 mod cursor;
 mod fault;
+mod fields;
 mod put;
 #[cfg(test)]
 mod tests;
 
 pub use cursor::Cursor;
 pub use fault::{CatalogFault, WireFault};
+pub use fields::{FieldFault, bytes_field, rule, u32_field, u64_field};
 pub use put::{bytes_of_u32, bytes_of_u64, put_bytes, put_u32, put_u64};

@@ -44,3 +44,29 @@ fn a_catalogue_fails_where_its_cursor_does(rt: HostRuntime) {
         assert_eq!(rt; CatalogFault::from(fault), CatalogFault::BadCatalog { at });
     }
 }
+
+#[test]
+fn fields_are_read_one_behind_the_other(rt: HostRuntime) {
+    let refused = |left: usize| FieldFault::Bad { left };
+    assert!(rt; u32_field(BYTES) == Ok((0x102, &BYTES[4..])));
+    assert!(rt; u64_field(&BYTES[4..]) == Ok((0x304_0506, &[7][..])));
+    assert!(rt; u64_field(&BYTES[5..]) == Ok((0x30405_0607, &[][..])));
+    assert!(rt; bytes_field(BYTES, 13) == Ok((BYTES, &[][..])));
+    assert!(rt; bytes_field(BYTES, 0) == Ok((&[][..], BYTES)));
+    // A field that is cut is refused from its first byte on.
+    assert!(rt; u32_field(&BYTES[10..]) == Err(refused(3)));
+    assert!(rt; u64_field(&BYTES[6..]) == Err(refused(7)));
+    assert!(rt; bytes_field(BYTES, 14) == Err(refused(13)));
+    assert!(rt; rule(true, BYTES) == Ok(()));
+    assert!(rt; rule(false, &BYTES[4..]) == Err(refused(9)));
+    // Its place is counted from the front.
+    assert_eq!(rt;
+        refused(9).within(BYTES),
+        CatalogFault::BadCatalog { at: 4 }
+    );
+    assert_eq!(rt;
+        refused(0).within(BYTES),
+        CatalogFault::BadCatalog { at: 13 }
+    );
+    assert_eq!(rt; FieldFault::NoMemory.within(BYTES), CatalogFault::NoMemory);
+}
