@@ -1,0 +1,4 @@
+pub mod EntryLaws
+pub mod ReadLoops
+pub mod RegionLaws
+pub mod TableLaws
