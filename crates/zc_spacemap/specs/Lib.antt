@@ -1,0 +1,4 @@
+pub mod Held
+pub mod MapBytes
+pub mod Sound
+pub mod States
