@@ -1,0 +1,7 @@
+pub mod Loops
+pub mod SlotLaws
+pub mod FileParts
+pub mod NameLaws
+pub mod EntryLaws
+pub mod FileLaws
+pub mod DatasetLaws

@@ -1,0 +1,5 @@
+pub mod NameSet
+pub mod Names
+pub mod Reach
+pub mod Reading
+pub mod Spelling
