@@ -1,0 +1,4 @@
+pub mod BodyLaws
+pub mod RootLaws
+mod SlotLaws
+mod Written
