@@ -68,6 +68,13 @@ impl BitMap {
         })
     }
 
+    /// The number of places of its device.
+    pub fn places(&self) -> u32
+        ensures { result ≡ length (states_of self.now) }
+    {
+        self.states.len() as u32
+    }
+
     // The first free place from `rotor` on, or else the first of all.
     #[tactic(auto, using(crate::proofs::StateLaws::found_behind, crate::proofs::StateLaws::found_before, crate::proofs::StateLaws::found_nowhere))]
     fn next_free(&self, rotor: u32) -> Option<u32>

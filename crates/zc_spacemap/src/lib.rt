@@ -17,7 +17,7 @@ mod tests;
 mod writing;
 
 pub use bit_map::BitMap;
-pub use reading::read_map;
+pub use reading::{map_field, read_map};
 pub use space_map::SpaceMap;
 pub use state::PlaceState;
 pub use stored::StoredMap;

@@ -31,9 +31,12 @@ pub fn read_map(
     }
 }
 
-// A map, and the bytes behind it.
+/// The map of so many places at the front of the bytes, and the bytes behind it.
+///
+/// # Errors
+/// Want of memory; or `Bad` at the front where there are fewer bytes than an eighth of the places.
 #[tactic(auto, unfolding(crate::specs::MapBytes::map_field))]
-fn map_field<'a>(
+pub fn map_field<'a>(
     alloc: Global,
     bytes: &'a [u8],
     places: u32,

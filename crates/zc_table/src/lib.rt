@@ -23,7 +23,7 @@ mod tests;
 mod writing;
 
 pub use plain::PlainTable;
-pub use reading::read_table;
+pub use reading::{read_table, table_field};
 pub use steps::Steps;
 pub use stored::{StoredCount, StoredTable};
 pub use table::RefTable;

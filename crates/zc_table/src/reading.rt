@@ -38,19 +38,22 @@ fn table_at_front(
 ) -> Result<(StoredTable, usize), CatalogFault>
     ensures { Answers (length bytes.now) result (table_field limits.now.devices limits.now.places device bytes.now) }
 {
-    match table_of(alloc, limits, device, bytes) {
+    match table_field(alloc, bytes, limits, device) {
         Ok((table, rest)) => Ok((table, bytes.len() - rest.len())),
         Err(fault) => Err(fault.within(bytes)),
     }
 }
 
-// The table, and the bytes behind it.
+/// The table of the device at the front of the bytes, and the bytes behind it.
+///
+/// # Errors
+/// Want of memory; or `Bad` at the first field that isn't there whole or breaks a rule.
 #[tactic(auto, unfolding(crate::specs::TableBytes::table_field))]
-fn table_of<'a>(
+pub fn table_field<'a>(
     alloc: Global,
+    bytes: &'a [u8],
     limits: &Limits,
     device: u32,
-    bytes: &'a [u8],
 ) -> Result<(StoredTable, &'a [u8]), FieldFault>
     ensures { Gives (λ x. (x.0, x.1.now)) result (table_field limits.now.devices limits.now.places device bytes.now) }
 {

@@ -4,4 +4,5 @@ pub mod FileParts
 pub mod NameLaws
 pub mod EntryLaws
 pub mod FileLaws
+pub mod CatalogueLaws
 pub mod DatasetLaws

@@ -1,3 +1,5 @@
+pub mod Catalogue
+pub mod CatalogueReading
 pub mod NameSet
 pub mod Names
 pub mod Reach

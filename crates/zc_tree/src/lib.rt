@@ -6,6 +6,7 @@
 // or breaks a rule.
 #![tactic(auto)]
 
+mod catalogue;
 mod names;
 mod reading;
 mod slots;
@@ -15,6 +16,7 @@ mod tree;
 mod walking;
 mod writing;
 
-pub use reading::{read_dataset, read_next_dataset};
+pub use catalogue::{Catalogue, Parts};
+pub use reading::{dataset_field, read_dataset, read_next_dataset};
 pub use tree::{Dataset, File, LogState, Tree};
 pub use writing::put_dataset;

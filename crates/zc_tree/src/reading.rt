@@ -58,9 +58,13 @@ pub fn read_next_dataset(
     }
 }
 
-// A dataset behind others.
+/// A dataset behind others at the front of the bytes, and the bytes behind it. The root's group and next dataset number are those
+/// of the catalogue.
+///
+/// # Errors
+/// Want of memory; or `Bad` at the first field that isn't there whole or breaks a rule.
 #[tactic(auto, unfolding(crate::specs::Reading::dataset_field))]
-fn dataset_field<'a>(
+pub fn dataset_field<'a>(
     alloc: Global,
     bytes: &'a [u8],
     limits: &Limits,

@@ -24,6 +24,13 @@ impl PlainTable {
             saved: 0,
         })
     }
+
+    /// The number of places of its device.
+    pub fn places(&self) -> u32
+        ensures { result ≡ length (counts_of self.now) }
+    {
+        self.counts.len() as u32
+    }
 }
 
 // That many zeros.
