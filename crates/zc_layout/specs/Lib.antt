@@ -1,0 +1,4 @@
+pub mod Creation
+pub mod Layout
+pub mod Outcomes
+pub mod Standing
