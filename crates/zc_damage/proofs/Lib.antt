@@ -1,0 +1,9 @@
+pub mod BlockLaws
+pub mod CensusLaws
+pub mod EarlyLaws
+pub mod FirstLaws
+pub mod LateLaws
+pub mod PartsLaws
+pub mod PlaceNumbers
+pub mod SpreadLaws
+pub mod SumLaws
