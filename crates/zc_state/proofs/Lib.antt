@@ -1,0 +1,9 @@
+pub mod BlockLaws
+pub mod ChainLaws
+pub mod FollowLaws
+pub mod LinkLaws
+pub mod OwnedPlaces
+pub mod Pointers
+pub mod ReadLaws
+pub mod StateLaws
+pub mod Steps
