@@ -1,0 +1,10 @@
+pub mod Bytes
+pub mod CommandLaws
+pub mod HistoryLaws
+pub mod NumberLaws
+pub mod NumberedLaws
+pub mod OtherLaws
+pub mod Places
+pub mod PlainLaws
+pub mod Together
+pub mod WrittenLaws
