@@ -1,0 +1,14 @@
+pub mod BlockLists
+pub mod CatalogueSize
+pub mod ChainCount
+pub mod CountingLaws
+pub mod EachItem
+pub mod EntryCounts
+pub mod ExactLaws
+pub mod ExactMaps
+pub mod ExactTables
+pub mod NewPlaces
+pub mod NextLaws
+pub mod NextState
+pub mod PointerSums
+pub mod TreePointers
