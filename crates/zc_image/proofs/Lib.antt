@@ -1,0 +1,5 @@
+pub mod BlockSteps
+pub mod ChainSteps
+pub mod PoolLaws
+pub mod SeenLaws
+pub mod StepLaws
