@@ -92,3 +92,7 @@ no_owner_hit devices places parts chain none =
     (neither (log_hit devices places parts.tree.datasets) _
     (neither (birth_hit parts.tree.group (pointers_of_tree parts.tree)) _
     (neither (worn_hit parts.tree) _ none).1).1).1
+
+-- and no number is too high
+pub no_worn_hit : (devices places : ℕ) (parts : Parts) (chain : List PlaceAt) → early_hit devices places parts chain ≡ None → worn_hit parts.tree ≡ None
+no_worn_hit devices places parts chain none = (neither (worn_hit parts.tree) _ none).0

@@ -1,11 +1,11 @@
 // The checks of what a catalogue says, and the blocks that its pointers are to.
-ghost use Rattle.std.specs.Prelude.{◌≡◌, ◌≤◌, IsErrOf};
+ghost use Rattle.std.specs.Prelude.{◌≡◌, ◌≤◌, OnOk, IsErrOf, None};
 ghost use Rattle.zc_tape.specs.Cause.{Rose};
 ghost use Rattle.zc_tape.specs.Crash.{reads};
 ghost use Rattle.zc_tree.specs.Catalogue.{AreParts};
 ghost use Rattle.zc_tree.specs.Reach.{pointers_of_tree};
 ghost use Rattle.zc_damage.specs.Places.{ChainPlaces};
-ghost use Rattle.zc_damage.specs.Checks.{HaveAreas};
+ghost use Rattle.zc_damage.specs.Checks.{HaveAreas, worn_hit};
 ghost use Rattle.zc_damage.specs.Census.{IsCensus};
 ghost use Rattle.zc_image.specs.Answers.{IsWhole, Answers};
 ghost use Rattle.zc_image.specs.Steps.{blocks_in};
@@ -20,7 +20,7 @@ use zc_tape::DiskSet;
 use zc_tree::Parts;
 
 // Makes the checks that need no block, reads the blocks, and makes the others.
-#[tactic(auto, unfolding(crate::specs::Steps::blocks_in), using(crate::proofs::StepLaws::no_owner_hit))]
+#[tactic(auto, unfolding(crate::specs::Steps::blocks_in), using(crate::proofs::StepLaws::no_owner_hit, crate::proofs::StepLaws::no_worn_hit))]
 fn check_and_read<D: DiskSet>(
     alloc: Global,
     disks: &mut D,
@@ -34,6 +34,7 @@ fn check_and_read<D: DiskSet>(
     requires devices { limits.now.devices ≡ (D.shape disks.old).devices }
     requires places { limits.now.places ≡ (D.shape disks.old).places }
     ensures exact { IsWhole (D.tape disks.old) → Answers (λ blocks. blocks) result (blocks_in limits.now.devices limits.now.places (reads (D.tape disks.old)) chain.now parts.now) }
+    ensures fresh { OnOk result (worn_hit parts.now.tree ≡ None) }
     ensures tape { D.tape disks.new ≡ D.tape disks.old }
     ensures shape { D.shape disks.new ≡ D.shape disks.old }
     ensures spare { D.spare disks.new ≡ D.spare disks.old }
@@ -63,6 +64,7 @@ pub fn read_reach<D: DiskSet>(
     requires devices { limits.now.devices ≡ (D.shape disks.old).devices }
     requires places { limits.now.places ≡ (D.shape disks.old).places }
     ensures exact { IsWhole (D.tape disks.old) → Answers (λ blocks. blocks) result (blocks_in limits.now.devices limits.now.places (reads (D.tape disks.old)) chain.now parts.now) }
+    ensures fresh { OnOk result (worn_hit parts.now.tree ≡ None) }
     ensures tape { D.tape disks.new ≡ D.tape disks.old }
     ensures shape { D.shape disks.new ≡ D.shape disks.old }
     ensures spare { D.spare disks.new ≡ D.spare disks.old }

@@ -1,5 +1,5 @@
 // All of it: what stands behind the root, or the first damage.
-ghost use Rattle.std.specs.Prelude.{◌≡◌, ◌≤◌, IfOk, IsErrOf};
+ghost use Rattle.std.specs.Prelude.{◌≡◌, ◌≤◌, IfOk, IsErrOf, None};
 ghost use Rattle.zc_num.specs.Limits.{AreLimits};
 ghost use Rattle.zc_tape.specs.Cause.{Rose};
 ghost use Rattle.zc_tape.specs.Crash.{reads};
@@ -8,6 +8,7 @@ ghost use Rattle.zc_root.specs.Root.{IsRoot, AreGates};
 ghost use Rattle.zc_layout.specs.Standing.{HasNoRoot};
 ghost use Rattle.zc_tree.specs.Catalogue.{AreParts};
 ghost use Rattle.zc_damage.specs.Places.{ChainPlaces};
+ghost use Rattle.zc_damage.specs.Checks.{worn_hit};
 ghost use Rattle.zc_state.specs.State.{State, StandsFor, IsFresh};
 ghost use Rattle.zc_image.specs.Answers.{IsWhole, Answers};
 ghost use Rattle.zc_image.specs.Blocks.{AreBlocksAt};
@@ -46,6 +47,11 @@ pub fn read_pool<D: DiskSet>(alloc: Global, disks: &mut D) -> Result<Found, Imag
     ensures only { IsWhole (D.tape disks.old) → (s : State) → StandsFor (D.shape disks.old) (reads (D.tape disks.old)) s → IsFresh s → Finds s result }
     ensures none { IsErrOf result ImageFault.NoPool → IsWhole (D.tape disks.old)
         → AreLimits (D.shape disks.old).devices (D.shape disks.old).places → HasNoRoot (reads (D.tape disks.old)) }
+
+    // Whatever the reads gave, these fit a pool of the disks' size, and the numbers are low.
+    ensures places { IfOk result (λ found. ChainPlaces (D.shape disks.old).devices (D.shape disks.old).places found.catalogue) }
+    ensures parts { IfOk result (λ found. AreParts (D.shape disks.old).devices (D.shape disks.old).places found.body.group found.body.next_dataset found.parts) }
+    ensures fresh { IfOk result (λ found. worn_hit found.parts.tree ≡ None) }
 
     ensures tape { D.tape disks.new ≡ D.tape disks.old }
     ensures shape { D.shape disks.new ≡ D.shape disks.old }
@@ -93,6 +99,9 @@ fn read_behind<D: DiskSet>(
     ensures body { IfOk result (λ found. found.body ≡ body) }
     ensures gates { IfOk result (λ found. found.gates ≡ gates) }
     ensures whole { IfOk result (λ found. IsWhole (D.tape disks.old) → AreBlocksAt (reads (D.tape disks.old)) found.catalogue) }
+    ensures there { IfOk result (λ found. ChainPlaces limits.now.devices limits.now.places found.catalogue) }
+    ensures parts { IfOk result (λ found. AreParts limits.now.devices limits.now.places body.group body.next_dataset found.parts) }
+    ensures fresh { IfOk result (λ found. worn_hit found.parts.tree ≡ None) }
     ensures tape { D.tape disks.new ≡ D.tape disks.old }
     ensures shape { D.shape disks.new ≡ D.shape disks.old }
     ensures spare { D.spare disks.new ≡ D.spare disks.old }

@@ -30,7 +30,7 @@ use Rattle.zc_state.proofs.Pointers.{ArePtrs, parts_have_ptrs}
 use Rattle.zc_state.proofs.BlockLaws.{all_mapped, all_of_two, each_reached, pointers_owned}
 use Rattle.zc_state.proofs.OwnedPlaces.{owned_means, beside_roots, block_is_among}
 use Rattle.zc_next.specs.Exact.{AreExact, exact_state}
-use Rattle.zc_next.specs.Next.{gathered, next_blocks, next_state, next_bytes, next_puts, IsUnowned, IsKept, IsWritten, IsNext}
+use Rattle.zc_next.specs.Next.{later_tree, gathered, next_blocks, next_state, next_bytes, next_puts, IsUnowned, IsKept, IsWritten, IsNext}
 use Rattle.zc_next.proofs.TreePointers.{datasets_have_ptrs, later_datasets, tail_same, IsSameAt}
 use Rattle.zc_next.proofs.BlockLists.{holds_there, owns_both, each_there, each_has_its_bytes, bytes_in_front, bytes_in_back, places_of_gathered, bytes_of_gathered}
 use Rattle.zc_next.proofs.NewPlaces.{same_place, chain_apart, chain_beside_fixed, is_owned_in, chain_beside_owned, chain_place_beside_owned, IsNewPlace, new_place, new_beside_owned, new_beside_fixed, new_beside_chain, new_distinct}
@@ -343,10 +343,6 @@ next_begins pool shape chain tree exact body =
     }
 
 -- ---- a group that changes nothing but its number
-
--- the tree of the state, committed by the group after
-abbrev pub later_tree : State → Tree
-later_tree s = record s.parts.tree { group = s.body.group + 1 }
 
 -- each item of a list is there
 each_contained : {X : Type 0} (xs : List X) → AllByRecursion (Contains xs) xs

@@ -28,6 +28,10 @@ next_blocks shape tree new old = gathered (block_places shape.devices shape.plac
 
 -- ---- the state, and what is written
 
+-- the tree of the state, committed by the next group
+abbrev pub later_tree : State → Tree
+later_tree s = record s.parts.tree { group = s.body.group + 1 }
+
 -- the state that a group leads to, which has this tree, this chain and these new blocks
 abbrev pub next_state : Shape → State → List PlaceAt → Tree → List FoundBlock → State
 next_state shape s chain tree new = exact_state s.body.pool shape chain tree (next_blocks shape tree new s.blocks)

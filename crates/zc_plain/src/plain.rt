@@ -1,7 +1,7 @@
 ghost use Rattle.std.specs.Prelude.{◌≡◌, ◌^◌, ◌<◌, IfSome};
 ghost use Rattle.std.specs.Option.{option_copied};
 ghost use Rattle.zc_plain.specs.PlainPool.{new_pool};
-ghost use Rattle.zc_plain.specs.IsPlain.{IsPlainFile};
+ghost use Rattle.zc_plain.specs.IsPlain.{IsPlain, IsPlainFile, AreNextUpTo};
 ghost use Rattle.zc_plain.specs.Answer.{file_of};
 
 use crate::answering::entry_reply;
@@ -46,6 +46,19 @@ impl Plain {
             next_dataset: 1,
             datasets: Listed::new(alloc),
         };
+        Plain {
+            alloc,
+            pool,
+            entries: 0,
+        }
+    }
+
+    /// A pool that is there before any entry, as it was found.
+    pub fn found(alloc: Global, pool: PlainPool) -> Self
+        requires plain { IsPlain pool }
+        requires numbers { AreNextUpTo (2 ^ 62) pool }
+        ensures { result ≡ begun pool }
+    {
         Plain {
             alloc,
             pool,

@@ -68,3 +68,8 @@ gates_of_both image first second at_first at_second = record { both = refl; exac
 pub slot_of_same_tape : (t read : Tape) (slot : ℕ) (gate_open : Bool) (root : Option Body) → read ≡ t
     → (IsTrue read.told → HasWholeRoots read → IsSlot (reads read) slot gate_open root) → IsTrue t.told → HasWholeRoots t → IsSlot (reads t) slot gate_open root
 slot_of_same_tape t read slot gate_open root e = subst (λ v. IsTrue v.told → HasWholeRoots v → IsSlot (reads v) slot gate_open root) e
+
+-- the same of a gate
+pub gate_of_same_tape : (t read : Tape) (slot : ℕ) (gate_open : Bool) → read ≡ t
+    → (IsTrue read.told → HasWholeRoots read → IsTrue gate_open ↔ IsOpenGate (reads read) slot) → IsTrue t.told → HasWholeRoots t → IsTrue gate_open ↔ IsOpenGate (reads t) slot
+gate_of_same_tape t read slot gate_open e = subst (λ v. IsTrue v.told → HasWholeRoots v → IsTrue gate_open ↔ IsOpenGate (reads v) slot) e

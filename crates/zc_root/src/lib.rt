@@ -20,5 +20,5 @@ mod writing;
 pub use body::{Body, slot_of};
 pub use gate::gate_bytes;
 pub use reading::read_body;
-pub use slots::{RootFault, read_slots};
+pub use slots::{RootFault, read_gates, read_slots};
 pub use writing::body_bytes;

@@ -64,6 +64,29 @@ pub fn read_slots<D: DiskSet>(disks: &mut D) -> Result<(Body, [bool; 2]), RootFa
     }
 }
 
+/// Which slots' gates are open, of a disk set whose size a pool has.
+///
+/// # Errors
+/// A read failed.
+#[tactic(auto, using(crate::proofs::SlotLaws::gates_of_both, crate::proofs::SlotLaws::gate_of_same_tape))]
+pub fn read_gates<D: DiskSet>(disks: &mut D) -> Result<[bool; 2], Failed>
+    requires limits { AreLimits (D.shape disks.old).devices (D.shape disks.old).places }
+    ensures gates { IfOk result (λ flags. IsTrue (D.tape disks.old).told → HasWholeRoots (D.tape disks.old)
+        → AreGates (reads (D.tape disks.old)) flags) }
+    ensures tape { D.tape disks.new ≡ D.tape disks.old }
+    ensures shape { D.shape disks.new ≡ D.shape disks.old }
+    ensures spare { D.spare disks.new ≡ D.spare disks.old }
+    ensures cause { HasCause (D.faults disks.old) (D.faults disks.new) result }
+{
+    match read_gate(disks, 0) {
+        Ok(first) => match read_gate(disks, 1) {
+            Ok(second) => Ok([first, second]),
+            Err(Failed) => Err(Failed),
+        },
+        Err(Failed) => Err(Failed),
+    }
+}
+
 // Reads a slot: its gate, and its body where the gate is open.
 fn read_slot<D: DiskSet>(disks: &mut D, slot: u32) -> Result<Slot, Failed>
     requires slot { slot < 2 }
