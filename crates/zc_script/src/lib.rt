@@ -24,3 +24,4 @@ pub use forms::{act_of, fits_small_file};
 pub use pools::{is_pool_name, pool_at};
 pub use printing::{print_line, print_reply};
 pub use script::{Script, ScriptFault, read_script};
+pub use words::number_of;

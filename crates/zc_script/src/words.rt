@@ -13,7 +13,7 @@ const MOST_DIGITS: usize = 19;
 // The most that a number of a line may be: 2^62.
 const MOST_NUMBER: u64 = 4611686018427387904;
 
-// The number of 1 to 19 decimal digits, which is at most 2^62.
+/// The number of 1 to 19 decimal digits, which is at most 2^62; `None` for any other word.
 #[tactic(auto, unfolding(crate::specs::Words::number_of))]
 pub fn number_of(text: &[u8]) -> Option<u64>
     ensures { result ≡ number_of text.now }
