@@ -6,8 +6,8 @@ use Rattle.zc_tape.specs.Tape.{Image, Shape, Tape}
 use Rattle.zc_tape.specs.Crash.{reads}
 use Rattle.zc_root.specs.Body.{body_bytes, IsBody}
 use Rattle.zc_root.specs.declared.body.Body.{Body}
-use Rattle.zc_root.specs.Root.{slot_of, gate_place, body_place, IsOpenGate, IsOpenRoot, HasWholeRoots}
-use Rattle.zc_pool.specs.Rooted.{HasSlot, IsRootThere, HasRootThere, TellsRoot, TellsBody}
+use Rattle.zc_root.specs.Root.{slot_of, body_place, IsOpenGate, HasWholeRoots}
+use Rattle.zc_pool.specs.Rooted.{HasRootThere, TellsRoot, TellsBody}
 
 -- without a device, or without the place, there is none
 pub no_device : (shape : Shape) (t : Tape) (slot : ℕ) → shape.devices < 1 → TellsRoot shape t slot false

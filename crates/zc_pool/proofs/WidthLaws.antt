@@ -1,8 +1,8 @@
 -- The numbers of things of a tree that a root may have fit their fields.
-use Rattle.std.proofs.Common.{◌≡◌, ℕ, ◌+◌, ◌/◌, ◌<◌, ◌≤◌, ◌^◌, List, [], ◌∷◌, ◌++◌, length, map, length-append, arith}
+use Rattle.std.proofs.Common.{◌≡◌, ℕ, ◌+◌, ◌/◌, ◌<◌, ◌≤◌, ◌^◌, List, [], ◌∷◌, ◌++◌, length, length-append, arith}
 use Rattle.std.proofs.lemmas.List.{length-map}
 use Rattle.std.specs.List.{AllByRecursion}
-use Rattle.zc_num.specs.Limits.{AreLimits, total_of, pointers_of, files_of}
+use Rattle.zc_num.specs.Limits.{AreLimits, total_of, pointers_of}
 use Rattle.zc_blkptr.specs.declared.ptr.Ptr.{Ptr}
 use Rattle.zc_tree.specs.Reach.{pointers_of_file, pointers_of_files}
 use Rattle.zc_tree.specs.Spelling.{IsFile, HasFileWidths, HasDatasetWidths}

@@ -1,5 +1,5 @@
 -- What a group leads to that is committed, and what it leaves wherever it is cut short.
-use Rattle.std.specs.Prelude.{◌≡◌, ◌⊎◌, ◌+◌, ◌^◌, ◌<◌, ◌≤◌, ℕ, Bool, true, List, [], ◌∷◌, ◌++◌, length, map, None, IsTrue}
+use Rattle.std.specs.Prelude.{◌≡◌, ◌⊎◌, ◌+◌, ◌^◌, ◌<◌, ◌≤◌, Bool, true, List, [], ◌∷◌, ◌++◌, length, map, None, IsTrue}
 use Rattle.std.specs.List.{AllByRecursion}
 use Rattle.zc_num.specs.declared.numbers.PlaceAt.{PlaceAt}
 use Rattle.zc_blkptr.specs.declared.ptr.Ptr.{Ptr}

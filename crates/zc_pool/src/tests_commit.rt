@@ -1,13 +1,14 @@
-// Groups over a pool that was just made, and what is found then.
-ghost use Rattle.std.specs.Prelude.{◌≡◌, [], IfOk};
+// Groups over a pool that was just made and taken up, and what is found then.
+ghost use Rattle.std.specs.Prelude.{◌≡◌, []};
 ghost use Rattle.zc_tape.specs.Memory.{shape_of};
+ghost use Rattle.zc_pool.specs.Kept.{HasSize, HasPlaces};
 
-use crate::{Root, commit, create_pool};
+use crate::{Root, commit, create_pool, import_pool};
 use std::alloc::Global;
 use std::process::Abort;
-use zc_image::{Found, read_pool};
-use zc_num::{Limits, Listed, Name, NoMemory};
-use zc_tape::{DiskSet, MemoryDisks};
+use zc_image::read_pool;
+use zc_num::{Listed, Name, NoMemory};
+use zc_tape::MemoryDisks;
 use zc_tree::Tree;
 
 // Disks with a pool that was just made.
@@ -20,11 +21,14 @@ fn made(rt: &impl Abort, alloc: Global) -> Result<MemoryDisks, NoMemory> {
     }
 }
 
-// What the disks hold.
-fn found_on(rt: &impl Abort, alloc: Global, disks: &mut MemoryDisks) -> Found {
-    match read_pool(alloc, disks) {
-        Ok(found) => found,
-        Err(_) => panic!(rt; "nothing is found"),
+// The root of the pool, once it is taken up.
+fn taken_up(rt: &impl Abort, alloc: Global, disks: MemoryDisks) -> (MemoryDisks, Root)
+    ensures size { HasSize (shape_of result.0) result.1 }
+    ensures places { HasPlaces result.1 }
+{
+    match import_pool(alloc, disks) {
+        Ok((disks, imported)) => (disks, imported.root),
+        Err(_) => panic!(rt; "no pool is taken up"),
     }
 }
 
@@ -39,44 +43,48 @@ fn empty(alloc: Global, group: u64) -> Tree
     }
 }
 
-// Commits the empty tree as this group, over what the disks hold.
-fn commit_empty(rt: &impl Abort, alloc: Global, disks: &mut MemoryDisks, group: u64) -> Root {
-    let found = found_on(rt, alloc, disks);
-    let Some(limits) = Limits::of(disks.devices(), disks.places()) else {
-        panic!(rt; "no pool has this size");
-    };
-    let mut root = Root {
-        limits,
-        body: found.body,
-        gates: found.gates,
-        tree: empty(alloc, found.body.group),
-        chain: Listed::new(alloc),
-    };
-    root.chain = found.catalogue;
-    assert!(rt; found.parts.tree.datasets.is_empty());
-    let answer = commit(
-        alloc,
-        disks,
-        &mut root,
-        empty(alloc, group),
-        Listed::new(alloc),
-    );
+// Commits the empty tree as this group.
+fn commit_empty(
+    rt: &impl Abort,
+    alloc: Global,
+    disks: &mut MemoryDisks,
+    root: &mut Root,
+    group: u64,
+)
+    requires size { HasSize (shape_of disks.old) root.old }
+    requires places { HasPlaces root.old }
+    ensures size { HasSize (shape_of disks.new) root.new }
+    ensures places { HasPlaces root.new }
+{
+    let answer = commit(alloc, disks, root, empty(alloc, group), Listed::new(alloc));
     assert!(rt; answer.is_ok());
-    root
+}
+
+// Asserts that the disks hold this root of this group.
+fn expect(rt: &impl Abort, alloc: Global, disks: &mut MemoryDisks, root: &Root, group: u64)
+    ensures { shape_of disks.new ≡ shape_of disks.old }
+{
+    match read_pool(alloc, disks) {
+        Ok(found) => {
+            assert!(rt; root.tree.group == group);
+            assert!(rt; found.body == root.body);
+            assert!(rt; found.body.group == group);
+            assert!(rt; found.gates == root.gates);
+            assert!(rt; found.catalogue.as_slice() == root.chain.as_slice());
+        }
+        Err(_) => panic!(rt; "nothing is found"),
+    }
 }
 
 #[test]
 fn each_next_group_is_found(rt: HostRuntime) -> Result<(), NoMemory> {
-    let mut disks = made(&rt, rt.alloc())?;
-    for group in 2..6 {
-        let root = commit_empty(&rt, rt.alloc(), &mut disks, group);
-        assert!(rt; root.gates == [true, true]);
-        assert!(rt; root.tree.group == group);
-        let found = found_on(&rt, rt.alloc(), &mut disks);
-        assert!(rt; found.body == root.body);
-        assert!(rt; found.body.group == group);
-        assert!(rt; found.gates == root.gates);
-        assert!(rt; found.catalogue.as_slice() == root.chain.as_slice());
-    }
+    let alloc = rt.alloc();
+    let disks = made(&rt, alloc)?;
+    let (mut disks, mut root) = taken_up(&rt, alloc, disks);
+    expect(&rt, alloc, &mut disks, &root, 2);
+    commit_empty(&rt, alloc, &mut disks, &mut root, 3);
+    expect(&rt, alloc, &mut disks, &root, 3);
+    commit_empty(&rt, alloc, &mut disks, &mut root, 4);
+    expect(&rt, alloc, &mut disks, &root, 4);
     Ok(())
 }

@@ -1,0 +1,9 @@
+pub mod Changes
+pub mod Copied
+pub mod Following
+pub mod Held
+pub mod Live
+pub mod NewBlocks
+pub mod Opened
+pub mod Same
+pub mod Tracks
