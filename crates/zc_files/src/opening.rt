@@ -34,7 +34,7 @@ pub fn open<D: DiskSet>(alloc: Global, disks: D) -> Result<(D, Live), (ImportFau
 
     // What is held in memory fits together, whatever the disks gave, and its numbers are low.
     ensures steady { IfOk result (λ opened. IsSteady (D.shape disks) opened.1) }
-    ensures fresh_numbers { IfOk result (λ opened. (opened.1.plain.entries ≡ 0) × (opened.1.mark ≡ 0) × (opened.1.root.tree.group ≤ 2 ^ 62 + 1)) }
+    ensures fresh_numbers { IfOk result (λ opened. (opened.1.plain.entries ≡ 0) × (opened.1.mark ≡ 0) × (1 ≤ opened.1.root.tree.group) × (opened.1.root.tree.group ≤ 2 ^ 62 + 1)) }
 
     // Wherever it is cut short, the state stands that stood there, or that of the claim group.
     ensures any_moment { (s : State) → IsTrue (D.tape disks).told → AtRest (D.tape disks) → StandsFor (D.shape disks) (reads (D.tape disks)) s
