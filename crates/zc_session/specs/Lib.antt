@@ -1,0 +1,4 @@
+pub mod Midway
+pub mod Played
+pub mod Session
+pub mod Survives

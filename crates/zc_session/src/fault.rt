@@ -1,0 +1,14 @@
+use zc_image::Damage;
+
+/// Why a run came to no text.
+#[derive(Debug, Drop)]
+pub enum SessionFault {
+    /// Memory was wanting.
+    NoMemory,
+    /// The disk set holds no pool.
+    NoPool,
+    /// A call of the disk set failed.
+    Failed,
+    /// The pool is damaged.
+    Damaged { damage: Damage },
+}
