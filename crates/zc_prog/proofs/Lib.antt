@@ -1,11 +1,5 @@
-pub mod Written
-pub mod Lines
-pub mod BodyBytes
-pub mod Streams
-pub mod Held
-pub mod Acts
+pub mod CreatedLaws
 pub mod Outcome
-pub mod Roots
-pub mod CommitLaw
-pub mod Slots
-pub mod LastWriteLaws
+pub mod RunLaws
+pub mod Streams
+pub mod WordLaws

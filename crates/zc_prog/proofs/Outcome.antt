@@ -1,20 +1,31 @@
--- What a run came to on its pool, put together from the shelf's calls and the session between them.
-use Rattle.std.proofs.Common.{◌≡◌, ◌⊎◌, ℕ, ◌≤◌, Bool, true, false, List, Result, Ok, Err, Vec, IsTrue, OnOk, IfOk, refl, sym, ap, ◌∙◌, ⊎_elim, arith, cond}
-use Rattle.std.specs.Prelude.{IsErrOf, is_ok}
+-- What a run came to on its pool, put together from the shelf's calls and the work between them.
+use Rattle.std.proofs.Common.{◌≡◌, ◌≢◌, ◌⊎◌, ℕ, ◌+◌, ◌≤◌, Bool, true, false, List, [], ◌∷◌, ◌++◌, Result, Ok, Err, Vec, IsTrue, OnOk, IfOk, refl, sym, ap, ◌∙◌, subst, inl, inr, ⊎_elim, arith, cond}
+use Rattle.std.specs.Prelude.{IfErr, IsErrOf, is_ok}
 use Rattle.std.specs.declared.alloc.Global.{Global}
 use Rattle.std.specs.declared.alloc.AllocError.{AllocError}
 use Rattle.std.specs.Str.{bytes_eq}
+use Rattle.zc_num.specs.Limits.{AreLimits}
 use Rattle.zc_tape.specs.Cause.{Rose, HasCause}
-use Rattle.zc_tape.specs.Tape.{Shape, Tape}
-use Rattle.zc_io.specs.Stock.{Stock, Gave, HandsOut, HandsBack, handed_out, handed_back}
-use Rattle.zc_prog.specs.declared.act.Act.{Act}
+use Rattle.zc_tape.specs.Tape.{Image, Shape, Tape}
+use Rattle.zc_tape.specs.Crash.{AtRest, reads}
+use Rattle.zc_tape.proofs.Held.{reads_first, at_rest_first}
+use Rattle.zc_io.specs.Stock.{Stock, Gave, HandsOut, HandsBack, IsHere, handed_out, handed_back}
+use Rattle.zc_root.specs.Root.{HasWholeRoots, IsOpenRoot, IsRoot}
+use Rattle.zc_pool.specs.Imported.{import_state}
+use Rattle.zc_root.specs.declared.body.Body.{Body}
+use Rattle.zc_layout.specs.Standing.{HasNoRoot}
+use Rattle.zc_command.specs.declared.command.Command.{Command}
+use Rattle.zc_script.specs.declared.act.Line.{Line}
+use Rattle.zc_state.specs.State.{State, StandsFor}
+use Rattle.zc_session.specs.declared.fault.SessionFault.{SessionFault}
+use Rattle.zc_session.specs.declared.fault.SessionFault.TheVariants as session
+use Rattle.zc_session.specs.Played.{commands_of, run_of}
+use Rattle.zc_session.specs.Survives.{Survives}
+use Rattle.zc_session.specs.Session.{IsPlayed, IsBeforeWrites, IsDamageOf}
 use Rattle.zc_prog.specs.declared.ended.Ended.{Ended}
-use Rattle.zc_prog.specs.declared.session.SessionFault.{SessionFault}
-use Rattle.zc_prog.specs.declared.session.SessionFault.TheVariants as session
-use Rattle.zc_prog.specs.State.{State}
-use Rattle.zc_prog.specs.Session.{IsSession, IsNoPool}
+use Rattle.zc_prog.specs.declared.ended.Ended.TheVariants.{Usage, ReadFault, TooLarge, BadLine, Missing, DiskFault, NoPool, Damaged, PoolExists, OtherSize, Played, Created}
 use Rattle.zc_prog.specs.Ended.{EndsAs}
-use Rattle.zc_prog.specs.Pooled.{IsNewPool, IsReturn, IsAllBack, IsPooled}
+use Rattle.zc_prog.specs.Pooled.{IsReturn, IsAllBack, GivesBack, HoldsOfGiven, IsPlayedAs, IsPooled, SurvivesRun}
 
 -- a count that rose in a part of a call rose in the call
 pub rose_within : (before from to now : ℕ) → before ≤ from → Rose from to → to ≤ now → Rose before now
@@ -24,11 +35,6 @@ rose_within before from to now a h b = omega arith
 pub caused : {T E : Type 0} (before now : ℕ) (result : Result T E) → HasCause before now result → is_ok result ≡ false → Rose before now
 caused before now (Ok x) h e = cc
 caused before now (Err x) h e = h.failed
-
--- what holds at Ok, where the answer is Ok
-pub at_ok : {T E : Type 0} (P : Type 0) (result : Result T E) → is_ok result ≡ true → OnOk result P → P
-at_ok P (Ok x) e h = h
-at_ok P (Err x) e h = cc
 
 -- a set that failed makes the shelf's count rise
 pub set_failed : (old new before now : ℕ) → old ≡ 0 → Rose old new → (new ≡ 0) ⊎ Rose before now → Rose before now
@@ -44,27 +50,135 @@ all_back_at true was e = cc
 all_back_at false was e = e
 
 -- so no name is handed out that wasn't before
-pub all_back : (old new : Stock) (name : List ℕ) (gave : Gave) → gave.name ≡ name → (IsTrue old.told → new ≡ handed_back (handed_out old name) gave) → IsAllBack old new
-all_back old new name gave e back told n is_out =
+all_back_of : (old new : Stock) (name : List ℕ) (gave : Gave) → gave.name ≡ name → (IsTrue old.told → new ≡ handed_back (handed_out old name) gave) → IsAllBack old new
+all_back_of old new name gave e back told n is_out =
     let there : cond (bytes_eq gave.name n) false (cond (bytes_eq name n) true (old.out n)) ≡ true = rw (back told) at is_out in
     all_back_at (bytes_eq name n) (old.out n) (rw e at there)
 
--- a disk set that was made is still new for the tape that it has now
-pub still_new : (shape later_shape : Shape) (tape later : Tape) → later_shape ≡ shape → later.told ≡ tape.told → (IsTrue tape.told → later.start ≡ tape.start) → IsNewPool shape tape → IsNewPool later_shape later
-still_new shape later_shape tape later e same began h = record {
-  shape_is = e ∙ h.shape_is;
-  blank = λ told d p device place. rw (began (sym same ∙ told)) (h.blank (sym same ∙ told) d p (rw e at device) (rw e at place));
-}
+-- ---- what is handed out, and handed back by a part of the work
 
--- a return, by its parts
-pub return_of : (old new : Stock) (name : List ℕ) (gave : Gave) → gave.name ≡ name → (IsTrue old.told → new ≡ handed_back (handed_out old name) gave) → (IsTrue old.told → old.here name ≡ false → IsNewPool gave.shape gave.tape) → IsReturn old new name gave
-return_of old new name gave e stock made = record { name_is = e; stock = stock; made = made }
+module _ (P : Gave → Type 0) (old mid new : Stock) (name : List ℕ) (same : mid.told ≡ old.told) (out : HandsOut old mid name) where
+  -- no name is handed out that wasn't before
+  pub all_back : GivesBack P mid new name → IsAllBack old new
+  all_back (gave, name_is, back, holds) = all_back_of old new name gave name_is (returned old mid new name gave same out back)
 
-module _ (old new : Stock) (before now : ℕ) (name : List ℕ) (acts : List Act) (gave : Gave) where
+  -- it holds of the one set that was handed back
+  pub holds_of_given : GivesBack P mid new name → HoldsOfGiven P old new name
+  holds_of_given (gave, name_is, back, holds) told = inr (gave, name_is, ap (λ (s : Stock). s.gives) (returned old mid new name gave same out back told), holds)
+
+-- nothing was handed back
+pub none_given : (P : Gave → Type 0) (old new : Stock) (name : List ℕ) → (IsTrue old.told → new ≡ old) → HoldsOfGiven P old new name
+none_given P old new name kept told = inl (ap (λ (s : Stock). s.gives) (kept told))
+
+pub none_out : (old new : Stock) → (IsTrue old.told → new ≡ old) → IsAllBack old new
+none_out old new kept told n is_out = sym (ap (λ (s : Stock). s.out n) (kept told)) ∙ is_out
+
+-- ---- a script on a pool
+
+-- later counts are as much a cause
+played_later : (before from now : ℕ) (name : List ℕ) (lines : List Line) (ended : Ended) (gave : Gave) → before ≤ from → IsPlayedAs from now name lines ended gave → IsPlayedAs before now name lines ended gave
+played_later before from now name lines Usage gave later is = is
+played_later before from now name lines ReadFault gave later is = is
+played_later before from now name lines TooLarge gave later is = is
+played_later before from now name lines (BadLine line) gave later is = is
+played_later before from now name lines Missing gave later is = is
+played_later before from now name lines PoolExists gave later is = is
+played_later before from now name lines OtherSize gave later is = is
+played_later before from now name lines (Created given) gave later is = is
+played_later before from now name lines DiskFault gave later is = rose_within before from now now later is (omega arith)
+played_later before from now name lines NoPool gave later is = is
+played_later before from now name lines (Damaged damage) gave later is = is
+played_later before from now name lines (Played text given) gave later is = (is.0, λ not_given. rose_within before from now now later (is.1 not_given) (omega arith), is.2)
+
+module _ (old mid new : Stock) (before from now : ℕ) (name : List ℕ) (lines : List Line) (same : mid.told ≡ old.told) (out : HandsOut old mid name) (there : IsHere old name true) (later : before ≤ from) where
+  -- what the set came to is what the pool of the name came to
+  pooled_one : (ended : Ended) → GivesBack (IsPlayedAs from now name lines ended) mid new name → IsPooled old new before now name lines ended
+  pooled_one Usage (gave, name_is, back, is) = is
+  pooled_one ReadFault (gave, name_is, back, is) = is
+  pooled_one TooLarge (gave, name_is, back, is) = is
+  pooled_one (BadLine line) (gave, name_is, back, is) = is
+  pooled_one Missing (gave, name_is, back, is) = absurd is
+  pooled_one PoolExists (gave, name_is, back, is) = is
+  pooled_one OtherSize (gave, name_is, back, is) = is
+  pooled_one (Created given) (gave, name_is, back, is) = is
+  pooled_one DiskFault (gave, name_is, back, is) = rose_within before from now now later is (omega arith)
+  pooled_one NoPool (gave, name_is, back, is) = (gave, there, record { name_is = name_is; stock = returned old mid new name gave same out back }, is)
+  pooled_one (Damaged damage) (gave, name_is, back, is) = (gave, there, record { name_is = name_is; stock = returned old mid new name gave same out back }, is)
+  pooled_one (Played text given) (gave, name_is, back, is) =
+      (gave, there, record { name_is = name_is; stock = returned old mid new name gave same out back }, played_later before from now name lines (Played text given) gave later is)
+
+  pub pooled : (r : Result Ended AllocError) → IfOk r (λ ended. GivesBack (IsPlayedAs from now name lines ended) mid new name) → IfOk r (IsPooled old new before now name lines)
+  pooled (Ok ended) is = pooled_one ended is
+  pooled (Err fault) is = tt
+
+-- the disk set as it is handed back, with the answer to that
+abbrev pub gave_of : List ℕ → Shape → Tape → Bool → Gave
+gave_of name shape u ok = record { name = name; shape = shape; tape = u; ok = ok }
+
+module _ (name : List ℕ) (lines : List Line) (shape used : Shape) (t u : Tape) (fresh : t.calls ≡ []) (same_shape : used ≡ shape) (same_told : u.told ≡ t.told) where
+  -- the start of a tape that is as it was
+  start_of : u ≡ t → reads t ≡ u.start
+  start_of same = reads_first t fresh ∙ ap (λ (v : Tape). v.start) (sym same)
+
   -- what came of the session is what the run came to
-  pub pooled_as : (played : Result (Vec ℕ Global) SessionFault) (result : Result Ended AllocError) → EndsAs played gave.ok result → (is_ok played ≡ true → IsReturn old new name gave) → (IsErrOf played session.NoPool → IsReturn old new name gave) → IfOk played (λ text. (found : State) × IsSession gave.shape gave.tape name acts found text.items) → (IsErrOf played session.NoPool → IsNoPool gave.shape gave.tape) → (IsErrOf played session.Failed → Rose before now) → (gave.ok ≡ false → Rose before now) → IfOk result (IsPooled old new before now name acts)
-  pooled_as (Ok text) result e back back_none ran none failed given = rw e (gave, ran.0, back refl, refl, given, ran.1)
-  pooled_as (Err session.NoPool) result e back back_none ran none failed given = rw e (gave, back_none refl, none refl)
-  pooled_as (Err session.Failed) result e back back_none ran none failed given = rw e (failed refl)
-  pooled_as (Err session.NoMemory) (Ok ended) e back back_none ran none failed given = absurd e
-  pooled_as (Err session.NoMemory) (Err fault) e back back_none ran none failed given = tt
+  played_by : (from now : ℕ) (mid new : Stock) (ok : Bool) (played : Result (Vec ℕ Global) SessionFault) (r : Result Ended AllocError) → EndsAs played ok r
+      → HandsBack mid new (gave_of name used u ok)
+      → IfOk played (λ text. IsPlayed shape u name (commands_of lines) (run_of lines) text.items)
+      → (IsErrOf played session.NoPool → IsTrue t.told → AreLimits shape.devices shape.places → HasNoRoot (reads t))
+      → IfErr played (λ fault. IsTrue t.told → IsDamageOf shape (reads t) fault)
+      → IfErr played (λ fault. IsBeforeWrites fault → u ≡ t)
+      → (IsErrOf played session.Failed → Rose from now) → (ok ≡ false → Rose from now)
+      → IfOk r (λ ended. GivesBack (IsPlayedAs from now name lines ended) mid new name)
+  played_by from now mid new ok (Ok text) r ends back whole none damaged kept failed not_given =
+      rw ends (gave_of name used u ok, refl, back, (refl, not_given, subst (λ (z : Shape). IsPlayed z u name (commands_of lines) (run_of lines) text.items) (sym same_shape) whole))
+  played_by from now mid new ok (Err session.NoPool) r ends back whole none damaged kept failed not_given =
+      rw ends (
+        gave_of name used u ok,
+        refl,
+        back,
+        (
+          ap (λ (v : Tape). v.calls) (kept tt) ∙ fresh,
+          λ told limits. subst HasNoRoot (start_of (kept tt)) (none refl (sym same_told ∙ told) (subst (λ (z : Shape). AreLimits z.devices z.places) same_shape limits)),
+        ),
+      )
+  played_by from now mid new ok (Err (session.Damaged damage)) r ends back whole none damaged kept failed not_given =
+      rw ends (
+        gave_of name used u ok,
+        refl,
+        back,
+        (
+          ap (λ (v : Tape). v.calls) (kept tt) ∙ fresh,
+          λ told. flat u.start (subst (λ (z : Shape). IsDamageOf z u.start (session.Damaged damage)) (sym same_shape)
+              (subst (λ (image : Image). IsDamageOf shape image (session.Damaged damage)) (start_of (kept tt)) (damaged (sym same_told ∙ told)))),
+        ),
+      )
+    where
+      flat : (image : Image) → IsDamageOf used image (session.Damaged damage) → (body : Body) × IsRoot image body × (import_state used image body ≡ Err damage)
+      flat image (body, both) = (body, both.0, both.1)
+  played_by from now mid new ok (Err session.Failed) r ends back whole none damaged kept failed not_given = rw ends (gave_of name used u ok, refl, back, failed refl)
+  played_by from now mid new ok (Err session.NoMemory) (Ok ended) ends back whole none damaged kept failed not_given = absurd ends
+  played_by from now mid new ok (Err session.NoMemory) (Err fault) ends back whole none damaged kept failed not_given = tt
+
+  -- the same by the calls' own clauses
+  pub played_as : {T E : Type 0} (from now before_faults after_faults : ℕ) (mid new : Stock) (give : Result T E) (played : Result (Vec ℕ Global) SessionFault) (r : Result Ended AllocError)
+      → EndsAs played (is_ok give) r
+      → HandsBack mid new (gave_of name used u (is_ok give))
+      → IfOk played (λ text. IsPlayed shape u name (commands_of lines) (run_of lines) text.items)
+      → (IsErrOf played session.NoPool → IsTrue t.told → AreLimits shape.devices shape.places → HasNoRoot (reads t))
+      → IfErr played (λ fault. IsTrue t.told → IsDamageOf shape (reads t) fault)
+      → IfErr played (λ fault. IsBeforeWrites fault → u ≡ t)
+      → before_faults ≡ 0 → (IsErrOf played session.Failed → Rose before_faults after_faults) → (after_faults ≡ 0) ⊎ Rose from now → HasCause from now give
+      → IfOk r (λ ended. GivesBack (IsPlayedAs from now name lines ended) mid new name)
+  played_as from now before_faults after_faults mid new give played r ends back whole none damaged kept no_faults failed set_faults cause =
+      played_by from now mid new (is_ok give) played r ends back whole none damaged kept (λ e. set_failed before_faults after_faults from now no_faults (failed e) set_faults) (caused from now give cause)
+
+  -- and what a crash leaves of it
+  pub survives_as : (mid new : Stock) (ok : Bool) (run : List Command) → HandsBack mid new (gave_of name used u ok) → (IsTrue t.told → u.start ≡ t.start)
+      → ((s : State) → IsTrue t.told → StandsFor shape (reads t) s → Survives shape u s run) → GivesBack (SurvivesRun run) mid new name
+  survives_as mid new ok run back began survives = (gave_of name used u ok, refl, back, given) where
+    given : SurvivesRun run (gave_of name used u ok)
+    given told s stands =
+        let told_before : IsTrue t.told = sym same_told ∙ told in
+        let same : u.start ≡ reads t = began told_before ∙ sym (reads_first t fresh) in
+        subst (λ (z : Shape). Survives z u s run) (sym same_shape)
+        (survives s told_before (subst (λ (image : Image). StandsFor shape image s) same (subst (λ (z : Shape). StandsFor z u.start s) same_shape stands)))

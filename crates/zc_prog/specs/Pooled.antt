@@ -1,39 +1,143 @@
 -- What a run does to its pool on the shelf.
-use Rattle.std.specs.Prelude.{◌≡◌, ℕ, true, false, List, IsTrue}
+use Rattle.std.specs.Prelude.{◌≡◌, ◌≢◌, ◌⊎◌, ℕ, ◌∷◌, ◌++◌, Bool, true, false, List, [], Err, IsTrue}
+use Rattle.zc_num.specs.Limits.{AreLimits}
 use Rattle.zc_tape.specs.Cause.{Rose}
 use Rattle.zc_tape.specs.Tape.{Shape, Tape}
-use Rattle.zc_io.specs.Stock.{Stock, Gave, handed_out, handed_back, IsBlank}
-use Rattle.zc_prog.specs.declared.act.Act.{Act}
+use Rattle.zc_tape.specs.Crash.{May, EachCrash, reads}
+use Rattle.zc_io.specs.Stock.{Stock, Gave, handed_out, handed_back, HandsBack, IsHere}
+use Rattle.zc_root.specs.declared.body.Body.{Body}
+use Rattle.zc_root.specs.Root.{IsRoot, IsOpenRoot}
+use Rattle.zc_layout.specs.Standing.{HasNoRoot}
+use Rattle.zc_damage.specs.declared.damage.Damage.{Damage}
+use Rattle.zc_command.specs.declared.command.Command.{Command}
+use Rattle.zc_script.specs.declared.act.Line.{Line}
+use Rattle.zc_state.specs.State.{State, StandsFor}
+use Rattle.zc_pool.specs.Created.{IsFirst, LeavesFirst}
+use Rattle.zc_pool.specs.Imported.{import_state}
+use Rattle.zc_pool.specs.Rooted.{HasRootThere}
+use Rattle.zc_session.specs.Played.{commands_of, run_of}
+use Rattle.zc_session.specs.Survives.{Survives}
+use Rattle.zc_session.specs.Session.{IsPlayed}
 use Rattle.zc_prog.specs.declared.ended.Ended.{Ended}
-use Rattle.zc_prog.specs.declared.ended.Ended.TheVariants.{Usage, ReadFault, TooLarge, BadLine, DiskFault, NoPool, Played}
-use Rattle.zc_prog.specs.State.{State}
-use Rattle.zc_prog.specs.Session.{IsSession, IsNoPool}
+use Rattle.zc_prog.specs.declared.ended.Ended.TheVariants.{Usage, ReadFault, TooLarge, BadLine, Missing, DiskFault, NoPool, Damaged, PoolExists, OtherSize, Played, Created}
 
--- a disk set that was made holds zeros in one device of 1,024 places
-pub record IsNewPool (shape : Shape) (tape : Tape) : Type 0 where
-  pub shape_is : shape ≡ record { devices = 1; places = 1024 }
-  pub blank : IsBlank shape tape
-
--- The pool's disk set was handed out and then handed back, as it is told here; it was made where the name wasn't there.
+-- The pool's disk set was handed out and then handed back, as it is told here.
 pub record IsReturn (old new : Stock) (name : List ℕ) (gave : Gave) : Type 0 where
   pub name_is : gave.name ≡ name
   pub stock : IsTrue old.told → new ≡ handed_back (handed_out old name) gave
-  pub made : IsTrue old.told → old.here name ≡ false → IsNewPool gave.shape gave.tape
 
 -- no name is handed out that wasn't before
 abbrev pub IsAllBack : Stock → Stock → Type 0
 IsAllBack old new = IsTrue old.told → (n : List ℕ) → new.out n ≡ true → old.out n ≡ true
 
--- what a run came to on its pool, by what stands on the shelf
-abbrev pub IsPooled : Stock → Stock → ℕ → ℕ → List ℕ → List Act → Ended → Type 0
-IsPooled old new before now name acts Usage = ⊥
-IsPooled old new before now name acts ReadFault = ⊥
-IsPooled old new before now name acts TooLarge = ⊥
-IsPooled old new before now name acts (BadLine line) = ⊥
--- a call failed, so the shelf's count of faults rose
-IsPooled old new before now name acts DiskFault = Rose before now
--- the disk set holds no pool, and was handed back as it was
-IsPooled old new before now name acts NoPool = (gave : Gave) × IsReturn old new name gave × IsNoPool gave.shape gave.tape
+-- a disk set is handed back under the name, and this holds of it
+abbrev pub GivesBack : (Gave → Type 0) → Stock → Stock → List ℕ → Type 0
+GivesBack P old new name = (gave : Gave) × (gave.name ≡ name) × HandsBack old new gave × P gave
+
+-- the one disk set that was handed back, if any was, is such a one, where the shelf tells that
+abbrev pub HoldsOfGiven : (Gave → Type 0) → Stock → Stock → List ℕ → Type 0
+HoldsOfGiven P old new name = IsTrue old.told → (new.gives ≡ old.gives) ⊎ ((gave : Gave) × (gave.name ≡ name) × (new.gives ≡ old.gives ++ gave ∷ []) × P gave)
+
+-- ---- a script on a pool
+
+-- the disk set holds a pool of this damage
+abbrev pub HasDamage : Shape → Tape → Damage → Type 0
+HasDamage shape u damage = IsTrue u.told → (body : Body) × IsRoot u.start body × (import_state shape u.start body ≡ Err damage)
+
+-- what a run of the lines on a disk set came to, by the set as it was handed back and by the counts of faults of the shelf
+abbrev pub IsPlayedAs : ℕ → ℕ → List ℕ → List Line → Ended → Gave → Type 0
+IsPlayedAs before now name lines Usage gave = ⊥
+IsPlayedAs before now name lines ReadFault gave = ⊥
+IsPlayedAs before now name lines TooLarge gave = ⊥
+IsPlayedAs before now name lines (BadLine line) gave = ⊥
+IsPlayedAs before now name lines Missing gave = ⊥
+IsPlayedAs before now name lines PoolExists gave = ⊥
+IsPlayedAs before now name lines OtherSize gave = ⊥
+IsPlayedAs before now name lines (Created given) gave = ⊥
+-- a call failed
+IsPlayedAs before now name lines DiskFault gave = Rose before now
+-- the disk set holds no pool, or has the size of none; no call was made
+IsPlayedAs before now name lines NoPool gave = (gave.tape.calls ≡ []) × (IsTrue gave.tape.told → AreLimits gave.shape.devices gave.shape.places → HasNoRoot gave.tape.start)
+-- the pool is damaged; no call was made
+IsPlayedAs before now name lines (Damaged damage) gave = (gave.tape.calls ≡ []) × HasDamage gave.shape gave.tape damage
 -- the script was played on the pool that was found there
-IsPooled old new before now name acts (Played text given) =
-    (gave : Gave) × (found : State) × IsReturn old new name gave × (gave.ok ≡ given) × (given ≡ false → Rose before now) × IsSession gave.shape gave.tape name acts found text
+IsPlayedAs before now name lines (Played text given) gave =
+    (gave.ok ≡ given) × (given ≡ false → Rose before now) × IsPlayed gave.shape gave.tape name (commands_of lines) (run_of lines) text
+
+-- the name was there, and its disk set was handed back with this
+abbrev pub IsPooledWith : Stock → Stock → List ℕ → (Gave → Type 0) → Type 0
+IsPooledWith old new name P = (gave : Gave) × IsHere old name true × IsReturn old new name gave × P gave
+
+-- what a run of the lines came to on the pool of a name
+abbrev pub IsPooled : Stock → Stock → ℕ → ℕ → List ℕ → List Line → Ended → Type 0
+-- the name isn't there, and nothing changed
+IsPooled old new before now name lines Missing = IsHere old name false × (IsTrue old.told → new ≡ old)
+-- a call of the shelf or of the set failed, so the shelf's count of faults rose
+IsPooled old new before now name lines DiskFault = Rose before now
+IsPooled old new before now name lines Usage = ⊥
+IsPooled old new before now name lines ReadFault = ⊥
+IsPooled old new before now name lines TooLarge = ⊥
+IsPooled old new before now name lines (BadLine line) = ⊥
+IsPooled old new before now name lines PoolExists = ⊥
+IsPooled old new before now name lines OtherSize = ⊥
+IsPooled old new before now name lines (Created given) = ⊥
+IsPooled old new before now name lines NoPool = IsPooledWith old new name (IsPlayedAs before now name lines NoPool)
+IsPooled old new before now name lines (Damaged damage) = IsPooledWith old new name (IsPlayedAs before now name lines (Damaged damage))
+IsPooled old new before now name lines (Played text given) = IsPooledWith old new name (IsPlayedAs before now name lines (Played text given))
+
+-- a crash at any moment since a sound disk set was handed out leaves the pool behind a prefix of the run that holds each commit that was
+-- answered by then
+abbrev pub SurvivesRun : List Command → Gave → Type 0
+SurvivesRun run gave = IsTrue gave.tape.told → (s : State) → StandsFor gave.shape gave.tape.start s → Survives gave.shape gave.tape s run
+
+-- ---- the creation of a pool
+
+-- the tape before its calls
+abbrev pub before_calls : Tape → Tape
+before_calls u = record u { calls = [] }
+
+-- the pool is there, on a set of the size that was asked, which had no root
+pub record IsMadePool (shape : Shape) (name : List ℕ) (gave : Gave) : Type 0 where
+  pub shape_is : gave.shape ≡ shape
+  pub none : IsTrue gave.tape.told → HasNoRoot gave.tape.start
+  pub first : IsTrue gave.tape.told → IsFirst gave.shape name gave.tape
+
+-- what the creation of a pool on a disk set came to
+abbrev pub IsMadeAs : ℕ → ℕ → List ℕ → Shape → Ended → Gave → Type 0
+IsMadeAs before now name shape Usage gave = ⊥
+IsMadeAs before now name shape ReadFault gave = ⊥
+IsMadeAs before now name shape TooLarge gave = ⊥
+IsMadeAs before now name shape (BadLine line) gave = ⊥
+IsMadeAs before now name shape Missing gave = ⊥
+IsMadeAs before now name shape NoPool gave = ⊥
+IsMadeAs before now name shape (Damaged damage) gave = ⊥
+IsMadeAs before now name shape (Played text given) gave = ⊥
+IsMadeAs before now name shape DiskFault gave = Rose before now
+-- an open root is there; no call was made
+IsMadeAs before now name shape PoolExists gave = (gave.tape.calls ≡ []) × (IsTrue gave.tape.told → HasRootThere gave.shape gave.tape.start)
+-- the set has another size, and no open root is there; no call was made
+IsMadeAs before now name shape OtherSize gave = (gave.tape.calls ≡ []) × (gave.shape ≢ shape) × (IsTrue gave.tape.told → HasRootThere gave.shape gave.tape.start → ⊥)
+IsMadeAs before now name shape (Created given) gave = (gave.ok ≡ given) × (given ≡ false → Rose before now) × IsMadePool shape name gave
+
+-- the disk set of the name, which was there or was made, was handed back with this
+abbrev pub IsCreatedWith : Stock → Stock → List ℕ → (Gave → Type 0) → Type 0
+IsCreatedWith old new name P = (gave : Gave) × IsReturn old new name gave × P gave
+
+-- what the creation of a pool came to
+abbrev pub IsCreated : Stock → Stock → ℕ → ℕ → List ℕ → Shape → Ended → Type 0
+IsCreated old new before now name shape Usage = ⊥
+IsCreated old new before now name shape ReadFault = ⊥
+IsCreated old new before now name shape TooLarge = ⊥
+IsCreated old new before now name shape (BadLine line) = ⊥
+IsCreated old new before now name shape Missing = ⊥
+IsCreated old new before now name shape NoPool = ⊥
+IsCreated old new before now name shape (Damaged damage) = ⊥
+IsCreated old new before now name shape (Played text given) = ⊥
+IsCreated old new before now name shape DiskFault = Rose before now
+IsCreated old new before now name shape PoolExists = IsCreatedWith old new name (IsMadeAs before now name shape PoolExists)
+IsCreated old new before now name shape OtherSize = IsCreatedWith old new name (IsMadeAs before now name shape OtherSize)
+IsCreated old new before now name shape (Created given) = IsCreatedWith old new name (IsMadeAs before now name shape (Created given))
+
+-- a crash at any moment since a disk set without a root was handed out leaves no root, or the pool that was just made
+abbrev pub CreatesWhole : List ℕ → Gave → Type 0
+CreatesWhole name gave = IsTrue gave.tape.told → HasNoRoot gave.tape.start → LeavesFirst gave.shape name (before_calls gave.tape) gave.tape

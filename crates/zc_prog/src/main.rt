@@ -1,28 +1,17 @@
-// The program: plays a script on the one file of a pool.
+// The program: makes a pool, or plays a script on one.
 //
-// A run goes in this order. The words are read. The source is read to its end; all that it held is the
-// script, and the script is checked whole. The pool's disk set is taken from the shelf, or made where the
-// name isn't there. Its root is found. The lines are played, and each commit writes a root into the slot
-// that isn't the last one's. A last commit ends the run, the disk set is handed back, and only then is the
-// text written. Each of these steps is a module, generic over the outside; `main` plays over standard
-// input, standard output and the files of the current folder.
+// A run of `play` goes in this order. The words are read. The source is read to its end; all that it held is the script, and the
+// script is checked whole. The pool's disk set is taken from the shelf, and the pool is opened. The lines are played, a last commit
+// ends the run, the disk set is handed back, and only then is the text written. Each of these steps is a module or a crate of its
+// own, generic over the outside; `main` runs over standard input, standard output and the files of the current folder.
 #![tactic(auto)]
 
-mod act;
-mod body;
-mod commit;
 mod ended;
-mod file;
 mod input;
-mod line;
+mod making;
 mod output;
-mod plain;
 mod play;
 mod pooled;
-mod reply;
-mod root;
-mod script;
-mod session;
 #[cfg(test)]
 mod tests;
 mod words;

@@ -1,66 +1,17 @@
-// A script's acts, played on the pool of a name: taken or made, played on, and given back.
-ghost use Rattle.std.specs.Prelude.{◌≡◌, ℕ, ◌^◌, ◌<◌, ◌≤◌, false, [], length, All, IfOk, OnOk, OnErr, IfErr, IsErrOf, IsTrue, is_ok};
-ghost use Rattle.zc_tape.specs.Cause.{Rose};
-ghost use Rattle.zc_io.specs.Stock.{Gave, HandsOut, HandsBack, KeepsStock, IsHere, IsFresh, IsBlank};
-ghost use Rattle.zc_prog.specs.State.{State};
-ghost use Rattle.zc_prog.specs.Line.{IsFit};
-ghost use Rattle.zc_prog.specs.Session.{IsSession, IsNoPool};
+// A script's lines, played on the pool of a name: taken, played on, and given back.
+ghost use Rattle.std.specs.Prelude.{◌≡◌, ◌^◌, ◌<◌, ◌≤◌, length, IfOk};
+ghost use Rattle.zc_io.specs.Stock.{IsFresh};
+ghost use Rattle.zc_session.specs.Played.{run_of};
+ghost use Rattle.zc_session.specs.Session.{AreActs};
 ghost use Rattle.zc_prog.specs.Ended.{EndsAs};
-ghost use Rattle.zc_prog.specs.Pooled.{IsNewPool, IsAllBack, IsPooled};
+ghost use Rattle.zc_prog.specs.Pooled.{IsAllBack, GivesBack, HoldsOfGiven, IsPlayedAs, IsPooled, SurvivesRun};
 
-use crate::act::Act;
 use crate::ended::Ended;
-use crate::session::{SessionFault, play_on};
 use std::alloc::{AllocError, Global};
 use zc_io::{Shelf, ShelfFault};
-use zc_num::{Bytes, Name, NoMemory};
-
-/// Why no disk set was handed out.
-#[derive(Clone, Copy, Debug, PartialEq, Eq)]
-enum TakeFault {
-    NoMemory,
-    Failed,
-}
-
-// Makes the disk set of a name that isn't there.
-fn make<H: Shelf>(shelf: &mut H, name: &Name) -> Result<H::Disk, TakeFault>
-    requires absent { IsHere (H.stock shelf.old) name.now false }
-    ensures told { (H.stock shelf.new).told ≡ (H.stock shelf.old).told }
-    ensures handed { OnOk result (HandsOut (H.stock shelf.old) (H.stock shelf.new) name.now) }
-    ensures fresh { IfOk result (λ disk. IsFresh (H.Disk.tape disk) (H.Disk.faults disk)) }
-    ensures made { IfOk result (λ disk. IsNewPool (H.Disk.shape disk) (H.Disk.tape disk)) }
-    ensures kept { OnErr result (KeepsStock (H.stock shelf.old) (H.stock shelf.new)) }
-    ensures later { H.faults shelf.old ≤ H.faults shelf.new }
-    ensures cause { IsErrOf result TakeFault.Failed → Rose (H.faults shelf.old) (H.faults shelf.new) }
-{
-    match shelf.make(name, 1, 1024) {
-        Ok(disk) => Ok(disk),
-        Err(ShelfFault::Failed) => Err(TakeFault::Failed),
-        Err(ShelfFault::NoMemory) => Err(TakeFault::NoMemory),
-        Err(ShelfFault::Missing) => unreachable!(),
-        Err(ShelfFault::Present) => unreachable!(),
-    }
-}
-
-// Takes the disk set of a name, and makes it where the name isn't there.
-fn take_or_make<H: Shelf>(shelf: &mut H, name: &Name) -> Result<H::Disk, TakeFault>
-    ensures told { (H.stock shelf.new).told ≡ (H.stock shelf.old).told }
-    ensures handed { OnOk result (HandsOut (H.stock shelf.old) (H.stock shelf.new) name.now) }
-    ensures fresh { IfOk result (λ disk. IsFresh (H.Disk.tape disk) (H.Disk.faults disk)) }
-    ensures made { IfOk result (λ disk. IsTrue (H.stock shelf.old).told → (H.stock shelf.old).here name.now ≡ false
-        → IsNewPool (H.Disk.shape disk) (H.Disk.tape disk)) }
-    ensures kept { OnErr result (KeepsStock (H.stock shelf.old) (H.stock shelf.new)) }
-    ensures later { H.faults shelf.old ≤ H.faults shelf.new }
-    ensures cause { IsErrOf result TakeFault.Failed → Rose (H.faults shelf.old) (H.faults shelf.new) }
-{
-    match shelf.take(name) {
-        Ok(disk) => Ok(disk),
-        Err(ShelfFault::Missing) => make(shelf, name),
-        Err(ShelfFault::Failed) => Err(TakeFault::Failed),
-        Err(ShelfFault::NoMemory) => Err(TakeFault::NoMemory),
-        Err(ShelfFault::Present) => unreachable!(),
-    }
-}
+use zc_num::{Bytes, Listed, Name, NoMemory};
+use zc_script::Line;
+use zc_session::{SessionFault, play_on};
 
 // What a run came to, once its disk set was handed back.
 fn ended_of(played: Result<Vec<u8>, SessionFault>, given: bool) -> Result<Ended, NoMemory>
@@ -72,34 +23,59 @@ fn ended_of(played: Result<Vec<u8>, SessionFault>, given: bool) -> Result<Ended,
             given,
         }),
         Err(SessionFault::NoPool) => Ok(Ended::NoPool),
+        Err(SessionFault::Damaged { damage }) => Ok(Ended::Damaged { damage }),
         Err(SessionFault::Failed) => Ok(Ended::DiskFault),
         Err(SessionFault::NoMemory) => Err(AllocError),
     }
 }
 
-/// Plays acts on the pool of a name. Whatever it comes to, the disk set is handed back.
+// Plays lines on a disk set that was handed out, and hands it back.
+#[tactic(auto, using(crate::proofs::Outcome::played_as, crate::proofs::Outcome::survives_as))]
+fn play_taken<H: Shelf>(
+    alloc: Global,
+    shelf: &mut H,
+    disks: H::Disk,
+    name: &Name,
+    lines: Listed<Line>,
+) -> Result<Ended, NoMemory>
+    requires acts { AreActs lines }
+    requires few { length lines < 2 ^ 32 }
+    requires fresh { IsFresh (H.Disk.tape disks) (H.Disk.faults disks) }
+    ensures told { (H.stock shelf.new).told ≡ (H.stock shelf.old).told }
+    ensures played { IfOk result (λ ended. GivesBack (IsPlayedAs (H.faults shelf.old) (H.faults shelf.new) name.now lines ended)
+        (H.stock shelf.old) (H.stock shelf.new) name.now) }
+    ensures survives { GivesBack (SurvivesRun (run_of lines)) (H.stock shelf.old) (H.stock shelf.new) name.now }
+    ensures later { H.faults shelf.old ≤ H.faults shelf.new }
+{
+    let (disks, played) = play_on(alloc, disks, name.bytes(), lines);
+    let given = shelf.give(name, disks).is_ok();
+    ended_of(played, given)
+}
+
+/// Plays lines on the pool of a name. Whatever it comes to, the disk set is handed back.
 ///
 /// # Errors
 /// Want of memory.
+#[tactic(auto, using(crate::proofs::Outcome::pooled, crate::proofs::Outcome::all_back, crate::proofs::Outcome::holds_of_given, crate::proofs::Outcome::none_given, crate::proofs::Outcome::none_out))]
 pub fn play_pool<H: Shelf>(
     alloc: Global,
     shelf: &mut H,
     name: &Name,
-    acts: &[Act],
+    lines: Listed<Line>,
 ) -> Result<Ended, NoMemory>
-    requires fit { All IsFit acts.now }
-    requires few { length acts.now < 2 ^ 32 }
+    requires acts { AreActs lines }
+    requires few { length lines < 2 ^ 32 }
     ensures told { (H.stock shelf.new).told ≡ (H.stock shelf.old).told }
-    ensures pooled { IfOk result (IsPooled (H.stock shelf.old) (H.stock shelf.new) (H.faults shelf.old) (H.faults shelf.new) name.now acts.now) }
+    ensures pooled { IfOk result (IsPooled (H.stock shelf.old) (H.stock shelf.new) (H.faults shelf.old) (H.faults shelf.new) name.now lines) }
     ensures given_back { IsAllBack (H.stock shelf.old) (H.stock shelf.new) }
+    ensures survives { HoldsOfGiven (SurvivesRun (run_of lines)) (H.stock shelf.old) (H.stock shelf.new) name.now }
     ensures later { H.faults shelf.old ≤ H.faults shelf.new }
 {
-    let mut disk = match take_or_make(shelf, name) {
-        Ok(disk) => disk,
-        Err(TakeFault::Failed) => return Ok(Ended::DiskFault),
-        Err(TakeFault::NoMemory) => return Err(AllocError),
-    };
-    let played = play_on(alloc, &mut disk, name.bytes(), acts);
-    let given = shelf.give(name, disk).is_ok();
-    ended_of(played, given)
+    match shelf.take(name) {
+        Ok(disks) => play_taken(alloc, shelf, disks, name, lines),
+        Err(ShelfFault::Missing) => Ok(Ended::Missing),
+        Err(ShelfFault::Failed) => Ok(Ended::DiskFault),
+        Err(ShelfFault::NoMemory) => Err(AllocError),
+        Err(ShelfFault::Present) => unreachable!(),
+    }
 }

@@ -3,17 +3,18 @@ ghost use Rattle.std.specs.Prelude.{◌≡◌, ◌<◌, [], IfOk};
 ghost use Rattle.zc_tape.specs.Memory.{tape_of};
 
 use crate::play::play;
-use std::alloc::Global;
+use std::alloc::{AllocError, Global};
 use std::process::Abort;
 use std::test::Fail;
-use zc_io::{MemoryShelf, MemorySink, MemorySource, Shelf};
+use zc_io::{MemoryShelf, MemorySink, MemorySource};
 use zc_num::Name;
-use zc_tape::{DiskSet, MemoryDisks};
+use zc_tape::{DiskSet, Keep, MemoryDisks};
 
-const FIRST: &[u8] =
-    b"write tank/d/f 0 68656c6c6f\nread tank/d/f 0 100\nread tank/d/f 5 1\ncommit tank\n";
+// A dataset with two files, a write, two reads and a commit.
+const FIRST: &[u8] = b"mkds tank/d\ncreate tank/d/f\ncreate tank/d/g\nwrite tank/d/f 0 68656c6c6f\n\
+    read tank/d/f 0 100\nread tank/d/f 5 1\ncommit tank\n";
 
-const FIRST_TEXT: &[u8] = b"ok 5\ndata 68656c6c6f\ndata -\nok\nend tank group 2\n";
+const FIRST_TEXT: &[u8] = b"ok\nok\nok\nok 5\ndata 68656c6c6f\ndata -\nok\nend tank group 4\n";
 
 // The status of a run, and the text that it leaves.
 #[derive(Debug, Drop)]
@@ -52,6 +53,27 @@ fn play_tank(alloc: Global, script: &[u8], shelf: &mut MemoryShelf) -> Result<Ou
     run(alloc, &["play", "tank"], script, 65_536, &[], &[], shelf)
 }
 
+// A run of `create tank` where nothing but the shelf's calls fails.
+fn create_tank(alloc: Global, places: &str, shelf: &mut MemoryShelf) -> Result<Outcome, Fail> {
+    run(
+        alloc,
+        &["create", "tank", "1", places],
+        b"",
+        65_536,
+        &[],
+        &[],
+        shelf,
+    )
+}
+
+// A shelf on which a pool was just made.
+fn fresh(rt: &impl Abort, alloc: Global) -> Result<MemoryShelf, Fail> {
+    let mut shelf = MemoryShelf::new(alloc, &[])?;
+    let made = create_tank(alloc, "1024", &mut shelf)?;
+    expect(rt, &made, 0, b"");
+    Ok(shelf)
+}
+
 fn tank(alloc: Global) -> Result<Name, Fail> {
     Ok(Name::of(alloc, b"tank")?)
 }
@@ -63,99 +85,197 @@ fn expect(rt: &impl Abort, run: &Outcome, code: u8, text: &[u8]) {
 }
 
 #[test]
-fn plays_one_file_and_finds_it_again(rt: HostRuntime) -> Result<(), Fail> {
+fn makes_a_pool_plays_on_it_and_finds_it_again(rt: HostRuntime) -> Result<(), Fail> {
     let alloc = rt.alloc();
-    let mut shelf = MemoryShelf::new(alloc, &[])?;
+    let mut shelf = fresh(&rt, alloc)?;
+    let nothing = play_tank(alloc, b"", &mut shelf)?;
+    expect(&rt, &nothing, 0, b"end tank group 3\n");
+
+    let mut shelf = fresh(&rt, alloc)?;
     let first = play_tank(alloc, FIRST, &mut shelf)?;
     expect(&rt, &first, 0, FIRST_TEXT);
-    let second = play_tank(alloc, b"read tank/d/f 1 2", &mut shelf)?;
-    expect(&rt, &second, 0, b"data 656c\nend tank group 3\n");
 
     // One byte at a time, with a comment, an empty line and no last end of a line.
     let script = b"# as before\n\nread tank/d/f 1 2";
-    let third = run(alloc, &["play", "tank"], script, 1, &[], &[], &mut shelf)?;
-    expect(&rt, &third, 0, b"data 656c\nend tank group 4\n");
-    let nothing = play_tank(alloc, b"", &mut shelf)?;
-    expect(&rt, &nothing, 0, b"end tank group 5\n");
+    let again = run(alloc, &["play", "tank"], script, 1, &[], &[], &mut shelf)?;
+    expect(&rt, &again, 0, b"data 656c\nend tank group 6\n");
+
+    // What is there already, and what isn't.
+    let refused = play_tank(
+        alloc,
+        b"mkds tank/d\ncreate tank/d/f\ncreate tank/x/f\nread tank/d/h 0 1\nwrite tank/d/f 4 21\nread tank/d/f 0 9\n",
+        &mut shelf,
+    )?;
+    expect(
+        &rt,
+        &refused,
+        0,
+        b"EEXIST\nEEXIST\nENOENT dataset\nENOENT file\nok 1\ndata 68656c6c21\nend tank group 8\n",
+    );
     Ok(())
 }
 
 #[test]
-fn refuses_bad_words_and_bad_lines(rt: HostRuntime) -> Result<(), Fail> {
+fn refuses_bad_words_bad_lines_and_a_missing_name(rt: HostRuntime) -> Result<(), Fail> {
     let alloc = rt.alloc();
-    let name = tank(alloc)?;
     let mut shelf = MemoryShelf::new(alloc, &[])?;
-    let words: [&[&str]; 5] = [
+    let words: [&[&str]; 8] = [
         &[],
         &["play"],
         &["play", "Tank"],
         &["play", "tank", "vault"],
         &["run", "tank"],
+        &["create", "tank", "1"],
+        &["create", "tank", "1", "1000"],
+        &["create", "tank", "0", "1024"],
     ];
     for w in words {
         let done = run(alloc, w, FIRST, 65_536, &[], &[], &mut shelf)?;
         expect(&rt, &done, 2, b"usage\n");
     }
-    let scripts: [&[u8]; 7] = [
-        b"write tank/d/f 3999 6161\n",
-        b"write tank/d/f 0 616\n",
-        b"write tank/d/f 0 \n",
-        b"read tank/d/f 10000 1\n",
-        b"read tank/d/f 0  1\n",
-        b"commit vault\n",
-        b"frob tank\n",
-    ];
-    for script in scripts {
-        let done = play_tank(alloc, script, &mut shelf)?;
-        expect(&rt, &done, 3, b"bad line 1\n");
-    }
-    let later = play_tank(
-        alloc,
-        b"commit tank\n#\nwrite tank/d/f 4000 61\n",
-        &mut shelf,
-    )?;
+    let later = play_tank(alloc, b"commit tank\n#\nfrob tank\n", &mut shelf)?;
     expect(&rt, &later, 3, b"bad line 3\n");
-    assert!(rt; shelf.disk(&name).is_none(), "no image is made");
+    let long = play_tank(alloc, b"write tank/d/f 3999 6161\n", &mut shelf)?;
+    expect(&rt, &long, 3, b"bad line 1\n");
+    let missing = play_tank(alloc, FIRST, &mut shelf)?;
+    expect(&rt, &missing, 11, b"missing tank\n");
     Ok(())
 }
 
-// The same set with zeros in the first eight bytes of both bodies.
-fn without_magic(alloc: Global, mut disks: MemoryDisks) -> Result<MemoryDisks, Fail>
-    ensures { IfOk result (λ set. (tape_of set).calls ≡ []) }
-{
-    let mut changed = MemoryDisks::new(alloc, 1, 1024, &[])?;
+#[test]
+fn makes_a_pool_only_where_there_is_none(rt: HostRuntime) -> Result<(), Fail> {
+    let alloc = rt.alloc();
+    let name = tank(alloc)?;
+    let mut shelf = fresh(&rt, alloc)?;
+    let again = create_tank(alloc, "1024", &mut shelf)?;
+    expect(&rt, &again, 9, b"pool exists tank\n");
+    let larger = create_tank(alloc, "2048", &mut shelf)?;
+    expect(&rt, &larger, 9, b"pool exists tank\n");
+    let found = play_tank(alloc, b"", &mut shelf)?;
+    expect(&rt, &found, 0, b"end tank group 3\n");
+
+    // Over zeros of the same size, and of another.
+    let mut zeros = MemoryShelf::new(alloc, &[])?;
+    assert!(rt;
+        zeros
+            .put(&name, MemoryDisks::new(alloc, 1, 1024, &[])?)
+            .is_ok()
+    );
+    let made = create_tank(alloc, "1024", &mut zeros)?;
+    expect(&rt, &made, 0, b"");
+    let mut other = MemoryShelf::new(alloc, &[])?;
+    assert!(rt;
+        other
+            .put(&name, MemoryDisks::new(alloc, 1, 2048, &[])?)
+            .is_ok()
+    );
+    let size = create_tank(alloc, "1024", &mut other)?;
+    expect(&rt, &size, 12, b"other size tank\n");
+
+    // Zeros are no pool, of whatever size.
+    let none = play_tank(alloc, FIRST, &mut other)?;
+    expect(&rt, &none, 7, b"no pool tank\n");
+    Ok(())
+}
+
+// The set of the shelf with another byte at the front of a place, on a shelf of its own.
+fn with_byte(
+    rt: &impl Abort,
+    alloc: Global,
+    shelf: &MemoryShelf,
+    place: u32,
+    byte: u8,
+) -> Result<MemoryShelf, Fail> {
+    let name = tank(alloc)?;
+    let Some(disks) = shelf.disk(&name) else {
+        panic!(rt; "the set lies there");
+    };
+    let mut left = left_at(rt, alloc, disks, disks.calls(), Keep::New)?;
+    assert!(rt; left.devices() == 1 && left.places() == 1024 && place < 1024);
     let mut block = [0u8; 4096];
-    if disks.devices() == 1 && disks.places() == 1024 {
-        let _ = disks.read(0, 0, &mut block);
-        block[..8].copy_from_slice(&[0; 8]);
-        changed.put(0, 0, &block);
-        let _ = disks.read(0, 1, &mut block);
-        changed.put(0, 1, &block);
-        let _ = disks.read(0, 2, &mut block);
-        block[..8].copy_from_slice(&[0; 8]);
-        changed.put(0, 2, &block);
-        let _ = disks.read(0, 3, &mut block);
-        changed.put(0, 3, &block);
-    }
-    Ok(changed)
+    let _ = left.read(0, place, &mut block);
+    block[0] = byte;
+    assert!(rt; left.calls() == 0);
+    left.put(0, place, &block);
+    let mut other = MemoryShelf::new(alloc, &[])?;
+    assert!(rt; other.put(&name, left).is_ok());
+    Ok(other)
+}
+
+// What a crash in a moment of the set's calls leaves.
+fn left_at(
+    rt: &impl Abort,
+    alloc: Global,
+    disks: &MemoryDisks,
+    moment: u64,
+    keep: Keep,
+) -> Result<MemoryDisks, Fail>
+    ensures { IfOk result (λ left. (tape_of left).calls ≡ []) }
+{
+    let _ = alloc;
+    assert!(rt; moment <= disks.calls());
+    Ok(disks.leave(moment, &[keep; 4])?)
 }
 
 #[test]
-fn tells_a_set_that_holds_no_pool(rt: HostRuntime) -> Result<(), Fail> {
+fn finds_the_root_behind_a_broken_gate_and_tells_a_damage(rt: HostRuntime) -> Result<(), Fail> {
     let alloc = rt.alloc();
+    let mut shelf = fresh(&rt, alloc)?;
+    let first = play_tank(alloc, FIRST, &mut shelf)?;
+    expect(&rt, &first, 0, FIRST_TEXT);
+
+    // Group 4 stands in slot 0, and its gate is place 1; group 3 is found in the other.
+    let mut one = with_byte(&rt, alloc, &shelf, 1, 0)?;
+    let behind = play_tank(alloc, b"read tank/d/f 0 9\n", &mut one)?;
+    expect(&rt, &behind, 0, b"data 68656c6c6f\nend tank group 5\n");
+    let mut both = with_byte(&rt, alloc, &with_byte(&rt, alloc, &shelf, 1, 0)?, 3, 0)?;
+    let none = play_tank(alloc, b"", &mut both)?;
+    expect(&rt, &none, 7, b"no pool tank\n");
+    Ok(())
+}
+
+// What a later run reads of the file, and by which group it ends.
+fn later_text(alloc: Global, disks: MemoryDisks) -> Result<Outcome, Fail>
+    requires { (tape_of disks).calls ≡ [] }
+{
     let name = tank(alloc)?;
     let mut shelf = MemoryShelf::new(alloc, &[])?;
-    let _ = play_tank(alloc, FIRST, &mut shelf)?;
-    let third = play_tank(alloc, b"", &mut shelf)?;
-    expect(&rt, &third, 0, b"end tank group 3\n");
+    match shelf.put(&name, disks) {
+        Ok(()) => play_tank(alloc, b"read tank/d/f 0 9\n", &mut shelf),
+        Err(_) => Err(Fail::from(AllocError)),
+    }
+}
 
-    // Both gates are open now; without its magic neither body is one.
-    let disks = shelf.take(&name).expect(&rt, "the set lies there");
-    let disks = without_magic(alloc, disks)?;
-    let mut other = MemoryShelf::new(alloc, &[])?;
-    assert!(rt; other.put(&name, disks).is_ok());
-    let none = play_tank(alloc, FIRST, &mut other)?;
-    expect(&rt, &none, 7, b"no pool tank\n");
+// The calls of the run: 6 of the claim group, whose gate is opened by the fifth; 8 of the commit, whose gate is opened by the 13th; and
+// 7 of the last group, whose gate is opened by the 20th.
+#[test]
+fn keeps_a_prefix_at_every_moment(rt: HostRuntime) -> Result<(), Fail> {
+    let alloc = rt.alloc();
+    let name = tank(alloc)?;
+    let mut shelf = fresh(&rt, alloc)?;
+    let first = play_tank(alloc, FIRST, &mut shelf)?;
+    expect(&rt, &first, 0, FIRST_TEXT);
+    let Some(disks) = shelf.disk(&name) else {
+        panic!(rt; "the set lies there");
+    };
+    assert_eq!(rt; disks.calls(), 21);
+    for moment in 0..22u64 {
+        for keep in [Keep::Old, Keep::New, Keep::Half] {
+            let left = left_at(&rt, alloc, disks, moment, keep)?;
+            let later = later_text(alloc, left)?;
+            let whole = keep == Keep::New;
+            let text: &[u8] = if moment >= 21 || whole && moment >= 19 {
+                b"data 68656c6c6f\nend tank group 6\n"
+            } else if moment >= 14 || whole && moment >= 12 {
+                b"data 68656c6c6f\nend tank group 5\n"
+            } else if moment >= 6 || whole && moment >= 4 {
+                b"ENOENT dataset\nend tank group 4\n"
+            } else {
+                b"ENOENT dataset\nend tank group 3\n"
+            };
+            assert!(rt; later.text.as_slice() == text, "moment {moment}, {keep:?}");
+        }
+    }
     Ok(())
 }
 
@@ -164,49 +284,29 @@ fn answers_each_failing_call_of_source_sink_and_shelf(rt: HostRuntime) -> Result
     let alloc = rt.alloc();
     let words = ["play", "tank"];
     for failing in [1, 2] {
-        let mut shelf = MemoryShelf::new(alloc, &[])?;
+        let mut shelf = fresh(&rt, alloc)?;
         let read = run(alloc, &words, FIRST, 65_536, &[failing], &[], &mut shelf)?;
         expect(&rt, &read, 4, b"read fault\n");
     }
-    let mut shelf = MemoryShelf::new(alloc, &[])?;
+    let mut shelf = fresh(&rt, alloc)?;
     let unwritten = run(alloc, &words, FIRST, 65_536, &[], &[1], &mut shelf)?;
     expect(&rt, &unwritten, 5, b"");
     let cut = run(alloc, &words, b"frob", 1, &[], &[4], &mut shelf)?;
     expect(&rt, &cut, 5, b"bad");
-    for failing in [1, 2] {
-        let mut shelf = MemoryShelf::new(alloc, &[failing])?;
-        let taken = play_tank(alloc, FIRST, &mut shelf)?;
-        expect(&rt, &taken, 6, b"disk fault tank\n");
-    }
+    let mut shelf = MemoryShelf::new(alloc, &[1])?;
+    let taken = play_tank(alloc, FIRST, &mut shelf)?;
+    expect(&rt, &taken, 6, b"disk fault tank\n");
+    let mut shelf = MemoryShelf::new(alloc, &[2])?;
+    let unmade = create_tank(alloc, "1024", &mut shelf)?;
+    expect(&rt, &unmade, 6, b"disk fault tank\n");
 
-    // A set that isn't taken back is lost, and the next run makes another.
-    let mut shelf = MemoryShelf::new(alloc, &[3])?;
+    // A set that isn't taken back is lost.
+    let mut shelf = MemoryShelf::new(alloc, &[5])?;
+    let made = create_tank(alloc, "1024", &mut shelf)?;
+    expect(&rt, &made, 0, b"");
     let given = play_tank(alloc, FIRST, &mut shelf)?;
     expect(&rt, &given, 6, FIRST_TEXT);
-    let anew = play_tank(alloc, b"", &mut shelf)?;
-    expect(&rt, &anew, 0, b"end tank group 1\n");
-    Ok(())
-}
-
-#[test]
-fn keeps_a_root_at_each_failing_call_of_the_disks(rt: HostRuntime) -> Result<(), Fail> {
-    let alloc = rt.alloc();
-    let name = tank(alloc)?;
-
-    // Two gates are read; then come two commits of five calls, of which the fourth writes the gate.
-    for failing in 1..13u64 {
-        let mut shelf = MemoryShelf::new(alloc, &[])?;
-        let disks = MemoryDisks::new(alloc, 1, 1024, &[failing])?;
-        assert!(rt; shelf.put(&name, disks).is_ok());
-        let stopped = play_tank(alloc, FIRST, &mut shelf)?;
-        expect(&rt, &stopped, 6, b"disk fault tank\n");
-        let found = play_tank(alloc, b"read tank/d/f 0 9\n", &mut shelf)?;
-        let text: &[u8] = match failing {
-            1..=6 => b"data -\nend tank group 1\n",
-            7..=11 => b"data 68656c6c6f\nend tank group 2\n",
-            _ => b"data 68656c6c6f\nend tank group 3\n",
-        };
-        expect(&rt, &found, 0, text);
-    }
+    let missing = play_tank(alloc, b"", &mut shelf)?;
+    expect(&rt, &missing, 11, b"missing tank\n");
     Ok(())
 }
