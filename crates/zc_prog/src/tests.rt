@@ -178,12 +178,13 @@ fn makes_a_pool_only_where_there_is_none(rt: HostRuntime) -> Result<(), Fail> {
     Ok(())
 }
 
-// The set of the shelf with another byte at the front of a place, on a shelf of its own.
+// The set of the shelf with another byte in a place, on a shelf of its own.
 fn with_byte(
     rt: &impl Abort,
     alloc: Global,
     shelf: &MemoryShelf,
     place: u32,
+    at: usize,
     byte: u8,
 ) -> Result<MemoryShelf, Fail> {
     let name = tank(alloc)?;
@@ -194,7 +195,8 @@ fn with_byte(
     assert!(rt; left.devices() == 1 && left.places() == 1024 && place < 1024);
     let mut block = [0u8; 4096];
     let _ = left.read(0, place, &mut block);
-    block[0] = byte;
+    assert!(rt; at < 4096);
+    block[at] = byte;
     assert!(rt; left.calls() == 0);
     left.put(0, place, &block);
     let mut other = MemoryShelf::new(alloc, &[])?;
@@ -225,12 +227,29 @@ fn finds_the_root_behind_a_broken_gate_and_tells_a_damage(rt: HostRuntime) -> Re
     expect(&rt, &first, 0, FIRST_TEXT);
 
     // Group 4 stands in slot 0, and its gate is place 1; group 3 is found in the other.
-    let mut one = with_byte(&rt, alloc, &shelf, 1, 0)?;
+    let mut one = with_byte(&rt, alloc, &shelf, 1, 0, 0)?;
     let behind = play_tank(alloc, b"read tank/d/f 0 9\n", &mut one)?;
     expect(&rt, &behind, 0, b"data 68656c6c6f\nend tank group 5\n");
-    let mut both = with_byte(&rt, alloc, &with_byte(&rt, alloc, &shelf, 1, 0)?, 3, 0)?;
+    let mut both = with_byte(
+        &rt,
+        alloc,
+        &with_byte(&rt, alloc, &shelf, 1, 0, 0)?,
+        3,
+        0,
+        0,
+    )?;
     let none = play_tank(alloc, b"", &mut both)?;
     expect(&rt, &none, 7, b"no pool tank\n");
+
+    // Group 4's catalogue stands at place 69, behind a link of eight bytes; its digest is another then.
+    let mut changed = with_byte(&rt, alloc, &shelf, 69, 8, 1)?;
+    let damaged = play_tank(alloc, b"", &mut changed)?;
+    assert_eq!(rt; damaged.code, 8);
+    let line = damaged.text.as_slice();
+    assert!(rt; line.len() == 161);
+    assert_eq!(rt; &line[..25], b"damaged digest 0:69 kept ".as_slice());
+    assert_eq!(rt; &line[89..96], b" found ".as_slice());
+    assert!(rt; line[25..89] != line[96..160], "both digests are told");
     Ok(())
 }
 
