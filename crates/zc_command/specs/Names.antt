@@ -2,7 +2,7 @@
 use Rattle.std.specs.Prelude.{ℕ, ◌^◌, ◌<◌, ◌≤◌, ◌==◌, ◌&&◌, ◌||◌, nat_le, nat_lt, Bool, IsTrue, List, [], ◌∷◌, length, map, Option, Some, None, if◌then◌else◌}
 use Rattle.std.specs.List.{list_all}
 use Rattle.zc_command.specs.declared.command.Command.{Command}
-use Rattle.zc_command.specs.declared.command.Command.TheVariants.{Mkds, Create, Write, Read, Commit}
+use Rattle.zc_command.specs.declared.command.Command.TheVariants.{Mkds, Rmds, Mount, Create, Remove, Write, Fill, Truncate, Read, Stat, Commit}
 
 -- `A` to `Z`
 abbrev pub is_upper : ℕ → Bool
@@ -42,17 +42,29 @@ long_length name = if nat_lt most_name (length name) then Some (length name) els
 -- the names of a command, in the order of its fields
 abbrev pub names_of : Command → List (List ℕ)
 names_of (Mkds dataset) = dataset ∷ []
+names_of (Rmds dataset) = dataset ∷ []
+names_of (Mount dataset) = dataset ∷ []
 names_of (Create dataset file) = dataset ∷ file ∷ []
+names_of (Remove dataset file) = dataset ∷ file ∷ []
 names_of (Write dataset file offset bytes) = dataset ∷ file ∷ []
+names_of (Fill dataset file offset len byte) = dataset ∷ file ∷ []
+names_of (Truncate dataset file size) = dataset ∷ file ∷ []
 names_of (Read dataset file offset len) = dataset ∷ file ∷ []
+names_of (Stat dataset file) = dataset ∷ file ∷ []
 names_of Commit = []
 
 -- the numbers of a command
 abbrev pub numbers_of : Command → List ℕ
 numbers_of (Mkds dataset) = []
+numbers_of (Rmds dataset) = []
+numbers_of (Mount dataset) = []
 numbers_of (Create dataset file) = []
+numbers_of (Remove dataset file) = []
 numbers_of (Write dataset file offset bytes) = offset ∷ []
+numbers_of (Fill dataset file offset len byte) = offset ∷ len ∷ []
+numbers_of (Truncate dataset file size) = size ∷ []
 numbers_of (Read dataset file offset len) = offset ∷ len ∷ []
+numbers_of (Stat dataset file) = []
 numbers_of Commit = []
 
 -- the first length in the list of those that there may be

@@ -18,5 +18,5 @@ mod text;
 
 pub use command::Command;
 pub use name::{MOST_NAME, are_name_bytes, has_name_bytes, is_name, is_name_byte};
-pub use refusal::{Part, Refusal, What};
+pub use refusal::{Bad, Part, Refusal, What, Why};
 pub use reply::Reply;

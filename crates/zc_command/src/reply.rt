@@ -1,5 +1,5 @@
 ghost use Rattle.std.specs.Prelude.{◌≡◌, ◌++◌, OnOk};
-ghost use Rattle.zc_command.specs.Texts.{reply_text};
+ghost use Rattle.zc_command.specs.Texts.{reply_text, size_text};
 
 use crate::refusal::Refusal;
 use crate::text::{push_bytes, push_number};
@@ -16,8 +16,20 @@ pub enum Reply {
     Count { bytes: u64 },
     /// These bytes were read.
     Data { bytes: Bytes },
+    /// The file has so many bytes, and so many blocks that are no holes.
+    Size { size: u64, blocks: u64 },
     /// It was refused.
     No { refusal: Refusal },
+}
+
+// Adds the size of a file, and its number of blocks.
+fn push_size(alloc: Global, out: &mut Vec<u8>, size: u64, blocks: u64) -> Result<(), NoMemory>
+    ensures { OnOk result (out.new.items ≡ out.old.items ++ size_text size blocks) }
+{
+    out.extend_from_slice(b"size ")?;
+    push_number(alloc, out, size)?;
+    out.extend_from_slice(b" blocks ")?;
+    push_number(alloc, out, blocks)
 }
 
 impl Reply {
@@ -38,6 +50,7 @@ impl Reply {
                 out.extend_from_slice(b"data ")?;
                 push_bytes(alloc, out, bytes.bytes())
             }
+            Reply::Size { size, blocks } => push_size(alloc, out, *size, *blocks),
             Reply::No { refusal } => refusal.push_text(alloc, out),
         }
     }

@@ -85,6 +85,28 @@ fn create_of(alloc: Global, dataset: usize, file: usize) -> Result<Command, NoMe
     Ok(Command::Create { dataset, file })
 }
 
+fn fill_of(alloc: Global, dataset: usize, file: usize) -> Result<Command, NoMemory> {
+    let dataset = letters(alloc, dataset)?;
+    let file = letters(alloc, file)?;
+    Ok(Command::Fill {
+        dataset,
+        file,
+        offset: 5,
+        length: 9,
+        byte: 65,
+    })
+}
+
+fn truncate_of(alloc: Global, dataset: usize, file: usize) -> Result<Command, NoMemory> {
+    let dataset = letters(alloc, dataset)?;
+    let file = letters(alloc, file)?;
+    Ok(Command::Truncate {
+        dataset,
+        file,
+        size: 9,
+    })
+}
+
 #[test]
 fn each_reply_has_its_text(rt: HostRuntime) -> Result<(), Fail> {
     let alloc = rt.alloc();
@@ -102,6 +124,14 @@ fn each_reply_has_its_text(rt: HostRuntime) -> Result<(), Fail> {
         let out = text_of(alloc, &Reply::Count { bytes })?;
         assert_eq!(rt; out.as_slice(), text.as_bytes());
     }
+    let counted = Reply::Size {
+        size: 5000,
+        blocks: 2,
+    };
+    assert_eq!(rt;
+        text_of(alloc, &counted)?.as_slice(),
+        b"size 5000 blocks 2".as_slice()
+    );
     Ok(())
 }
 
@@ -117,7 +147,49 @@ fn each_refusal_has_its_text_and_number(rt: HostRuntime) -> Result<(), Fail> {
             2,
         ),
         (Refusal::Enoent { part: Part::File }, "ENOENT file", 2),
+        (Refusal::Eio { call: 12 }, "EIO call 12", 5),
+        (
+            Refusal::Eio { call: u128::MAX },
+            "EIO call 340282366920938463463374607431768211455",
+            5,
+        ),
+        (Refusal::Enxio, "ENXIO unmounted", 6),
+        (Refusal::Ebusy { why: Why::Mounted }, "EBUSY mounted", 16),
+        (
+            Refusal::Ebusy {
+                why: Why::Unmounted,
+            },
+            "EBUSY unmounted",
+            16,
+        ),
         (Refusal::Eexist, "EEXIST", 17),
+        (Refusal::Einval { bad: Bad::Length }, "EINVAL length", 22),
+        (
+            Refusal::Efbig {
+                end: 2097153,
+                most: 2097152,
+            },
+            "EFBIG 2097153 of 2097152",
+            27,
+        ),
+        (
+            Refusal::Enospc {
+                what: What::Pointers,
+                need: 513,
+                most: 512,
+            },
+            "ENOSPC pointers 513 of 512",
+            28,
+        ),
+        (
+            Refusal::Enospc {
+                what: What::Charge,
+                need: 701,
+                most: 700,
+            },
+            "ENOSPC charge 701 of 700",
+            28,
+        ),
         (
             Refusal::Enospc {
                 what: What::Datasets,
@@ -149,6 +221,31 @@ fn each_refusal_has_its_text_and_number(rt: HostRuntime) -> Result<(), Fail> {
     Ok(())
 }
 
+fn remove_of(alloc: Global, dataset: usize, file: usize) -> Result<Command, NoMemory> {
+    let dataset = letters(alloc, dataset)?;
+    let file = letters(alloc, file)?;
+    Ok(Command::Remove { dataset, file })
+}
+
+fn stat_of(alloc: Global, dataset: usize, file: usize) -> Result<Command, NoMemory> {
+    let dataset = letters(alloc, dataset)?;
+    let file = letters(alloc, file)?;
+    Ok(Command::Stat { dataset, file })
+}
+
+// The first long name of each kind of command that names a file.
+fn long_names(alloc: Global, dataset: usize, file: usize) -> Result<[Option<u64>; 7], NoMemory> {
+    Ok([
+        create_of(alloc, dataset, file)?.long_name(),
+        remove_of(alloc, dataset, file)?.long_name(),
+        write_of(alloc, dataset, file)?.long_name(),
+        fill_of(alloc, dataset, file)?.long_name(),
+        truncate_of(alloc, dataset, file)?.long_name(),
+        read_of(alloc, dataset, file)?.long_name(),
+        stat_of(alloc, dataset, file)?.long_name(),
+    ])
+}
+
 #[test]
 fn the_first_long_name_counts(rt: HostRuntime) -> Result<(), Fail> {
     let alloc = rt.alloc();
@@ -158,13 +255,21 @@ fn the_first_long_name_counts(rt: HostRuntime) -> Result<(), Fail> {
         (64, 65, Some(65)),
         (66, 65, Some(66)),
     ] {
-        assert_eq!(rt; create_of(alloc, first, second)?.long_name(), found);
-        assert_eq!(rt; write_of(alloc, first, second)?.long_name(), found);
-        assert_eq!(rt; read_of(alloc, first, second)?.long_name(), found);
+        assert_eq!(rt; long_names(alloc, first, second)?, [found; 7]);
     }
+    Ok(())
+}
+
+#[test]
+fn a_long_name_of_a_dataset_alone_counts(rt: HostRuntime) -> Result<(), Fail> {
+    let alloc = rt.alloc();
     for (length, found) in [(64, None), (65, Some(65))] {
         let dataset = letters(alloc, length)?;
         assert_eq!(rt; Command::Mkds { dataset }.long_name(), found);
+        let dataset = letters(alloc, length)?;
+        assert_eq!(rt; Command::Rmds { dataset }.long_name(), found);
+        let dataset = letters(alloc, length)?;
+        assert_eq!(rt; Command::Mount { dataset }.long_name(), found);
     }
     assert_eq!(rt; Command::Commit.long_name(), None);
     Ok(())

@@ -14,6 +14,14 @@ pub fn push_number(alloc: Global, out: &mut Vec<u8>, number: u64) -> Result<(), 
     out.extend_from_slice(digits.as_bytes())
 }
 
+// Adds the number of a device call in decimal digits. There are more of them than 64 bits count.
+pub fn push_call(alloc: Global, out: &mut Vec<u8>, call: u128) -> Result<(), NoMemory>
+    ensures { OnOk result (out.new.items ≡ out.old.items ++ decimal call) }
+{
+    let digits = call.to_string(alloc)?;
+    out.extend_from_slice(digits.as_bytes())
+}
+
 // Adds bytes in lower-case hexadecimal digits, or `-` where there are none.
 pub fn push_bytes(alloc: Global, out: &mut Vec<u8>, bytes: &[u8]) -> Result<(), NoMemory>
     ensures { OnOk result (out.new.items ≡ out.old.items ++ bytes_text bytes.now) }

@@ -3,6 +3,7 @@ use Rattle.std.proofs.Common.{◌≡◌, ◌≢◌, ℕ, zero, suc, ◌/◌, ◌
 use Rattle.std.specs.List.{AllByRecursion}
 use Rattle.std.proofs.lemmas.Bool.{cases_lt}
 use Rattle.std.proofs.lemmas.List.{length-map}
+use Rattle.zc_num.specs.Limits.{file_bytes_of}
 use Rattle.zc_num.specs.declared.limits.Limits.{Limits}
 use Rattle.zc_num.specs.Ordered.{value_at}
 use Rattle.zc_num.proofs.Each.{length_each}
@@ -19,7 +20,7 @@ use Rattle.zc_plain.specs.declared.plain_pool.PlainBlock.{PlainBlock}
 use Rattle.zc_plain.specs.declared.plain_pool.PlainFile.{PlainFile}
 use Rattle.zc_plain.specs.declared.plain_pool.PlainDataset.{PlainDataset}
 use Rattle.zc_plain.specs.PlainPool.{blocks_of_size, bytes_of_block, block_at, byte_of}
-use Rattle.zc_plain.specs.Answer.{most_files}
+use Rattle.zc_plain.specs.Answer.{most_files, most_bytes}
 use Rattle.zc_plain.specs.IsPlain.{IsPlainFile, IsPlainDataset, IsPlain, AreNextUpTo}
 use Rattle.zc_plain.proofs.Bytes.{zero_of_zeros, length_zeros}
 use Rattle.zc_pool.specs.Imported.{most_file_bytes, IsTaken}
@@ -74,7 +75,7 @@ copied_file_plain blocks file low = record {
 -- ---- datasets and the pool
 
 pub copied_dataset_plain : (blocks : List FoundBlock) (devices places group next most : ℕ) (dataset : Dataset) → IsDataset devices places group next dataset → HasSmallFiles dataset
-    → length dataset.files ≤ most → IsPlainDataset most (copied_dataset blocks dataset)
+    → length dataset.files ≤ most → IsPlainDataset most (file_bytes_of devices places) (copied_dataset blocks dataset)
 copied_dataset_plain blocks devices places group next most dataset is small few = record {
   numbered = numbered_copies (copied_file blocks) (λ (file : PlainFile). file.id) (λ (file : PlainFile). file.name) dataset.next_file dataset.files is.some_next_file
       (all_mapped (IsFile devices places dataset.next_file) (λ (file : File). (1 ≤ file.id) × (file.id < dataset.next_file)) dataset.files (λ file fits. (fits.made, fits.before_next)) is.files)
@@ -83,6 +84,9 @@ copied_dataset_plain blocks devices places group next most dataset is small few 
   files = λ place file stands.
       let there = copied_there (copied_file blocks) (λ (f : File). f.size ≤ most_file_bytes) dataset.files place file small stands in
       subst IsPlainFile (sym there.2) (copied_file_plain blocks there.0 there.1);
+  sizes = λ place file stands.
+      let there = copied_there (copied_file blocks) (IsFile devices places dataset.next_file) dataset.files place file is.files stands in
+      subst (λ (f : PlainFile). f.size ≤ file_bytes_of devices places) (sym there.2) there.1.few_bytes;
 }
 
 -- a dataset that fits, and whose files are small
@@ -103,7 +107,7 @@ copied_is_plain limits tree blocks taken = record {
   few = rw length-map taken.few_datasets;
   datasets = λ place dataset stands.
       let there = copied_there (copied_dataset blocks) (Fits limits tree.group tree.next_dataset) tree.datasets place dataset (all_fit limits tree taken) stands in
-      subst (IsPlainDataset (most_files (copied_pool limits tree blocks))) (sym there.2)
+      subst (IsPlainDataset (most_files (copied_pool limits tree blocks)) (most_bytes (copied_pool limits tree blocks))) (sym there.2)
       (copied_dataset_plain blocks limits.devices limits.places tree.group tree.next_dataset (most_files (copied_pool limits tree blocks)) there.0 there.1.0 there.1.1 there.1.0.few_files);
 }
 

@@ -240,7 +240,7 @@ module _ (devices places group mark : ℕ) (new : List FoundBlock) (limits : Are
   old_files_have old_group old_next others (old ∷ olds) are = files_have old.next_file old.files are.0.files
 
   dataset_is : (next most : ℕ) (olds : List File) (plain : PlainDataset) (dataset : Dataset) → HavePtrs olds → 1 ≤ plain.id → plain.id < next → dataset.slot < 8 → plain.next_file ≤ most → most < 2 ^ 64
-      → IsNamed plain → IsSmall plain → IsPlainDataset (files_of devices places) plain
+      → IsNamed plain → IsSmall plain → IsPlainDataset (files_of devices places) (file_bytes_of devices places) plain
       → dataset.id ≡ plain.id → dataset.name ≡ plain.name → dataset.next_file ≡ plain.next_file → dataset.log ≡ Normal → AreNextFiles new group mark olds plain.files dataset.files
       → IsDataset devices places group next dataset
   dataset_is next most olds plain dataset have some below slot next_file width named small plain_is id_is name_is next_file_is log_is are =
@@ -315,7 +315,7 @@ module _ (devices places group mark : ℕ) (new : List FoundBlock) (limits : Are
       → AreNumberedDatasets next plains → AreAbove others plains → HaveOtherNames others plains
       → ((place : ℕ) (plain : PlainDataset) → StandsAt plains place plain → plain.next_file ≤ most)
       → AllByRecursion IsNamed plains → AllByRecursion IsSmall plains
-      → ((place : ℕ) (plain : PlainDataset) → StandsAt plains place plain → IsPlainDataset (files_of devices places) plain)
+      → ((place : ℕ) (plain : PlainDataset) → StandsAt plains place plain → IsPlainDataset (files_of devices places) (file_bytes_of devices places) plain)
       → AreNextDatasets new group mark olds others plains datasets
       → AreDatasets devices places group next others datasets × (length datasets ≡ length plains)
   datasets_are old_group old_next next most olds others old_others [] [] width old_are slots numbered above names next_files named small plain_are are = (tt, refl)
@@ -356,9 +356,10 @@ pub next_datasets_are : (devices places mark most : ℕ) (new : List FoundBlock)
     → ((bytes : List ℕ) (ptr : Ptr) → IsToNew tree.group new bytes ptr → IsPtr devices places ptr)
     → AreDatasets devices places tree.group tree.next_dataset [] tree.datasets × (length tree.datasets ≤ 8)
 next_datasets_are devices places mark most new old pool tree limits devices_are places_are is old_are plain width counted named small ptrs =
-    let plain_are : (place : ℕ) (dataset : PlainDataset) → StandsAt pool.datasets place dataset → IsPlainDataset (files_of devices places) dataset =
+    let plain_are : (place : ℕ) (dataset : PlainDataset) → StandsAt pool.datasets place dataset → IsPlainDataset (files_of devices places) (file_bytes_of devices places) dataset =
     λ place dataset stands.
-    subst (λ (p : ℕ). IsPlainDataset (files_of devices p) dataset) places_are (subst (λ (d : ℕ). IsPlainDataset (files_of d pool.limits.places) dataset) devices_are (plain.datasets place dataset stands)) in
+    subst (λ (p : ℕ). IsPlainDataset (files_of devices p) (file_bytes_of devices p) dataset) places_are
+    (subst (λ (d : ℕ). IsPlainDataset (files_of d pool.limits.places) (file_bytes_of d pool.limits.places) dataset) devices_are (plain.datasets place dataset stands)) in
     let all = datasets_are devices places tree.group mark new limits ptrs old.group old.next_dataset pool.next_dataset most old.datasets [] [] pool.datasets tree.datasets width old_are (none_yet old.datasets)
     plain.numbered (λ place dataset stands. refl) (λ place dataset stands. refl) counted.file named small plain_are is.datasets_are in
     let few : length pool.datasets ≤ 8 = plain.few in (

@@ -25,7 +25,7 @@ use Rattle.zc_plain.specs.declared.plain_pool.PlainFile.{PlainFile}
 use Rattle.zc_plain.specs.declared.plain_pool.PlainDataset.{PlainDataset}
 use Rattle.zc_plain.specs.declared.plain_pool.PlainPool.{PlainPool}
 use Rattle.zc_plain.specs.IsPlain.{StandsAt, IsPlain, IsPlainFile, IsPlainDataset}
-use Rattle.zc_plain.specs.Answer.{most_files}
+use Rattle.zc_plain.specs.Answer.{most_files, most_bytes}
 use Rattle.zc_pool.specs.Committed.{MayFollow}
 use Rattle.zc_pool.specs.Imported.{most_file_bytes}
 use Rattle.zc_files.specs.Changes.{IsToNew, IsNextTree}
@@ -45,20 +45,20 @@ each_stands : {X : Type 0} (P : X → Type 0) (xs : List X) → ((place : ℕ) (
 each_stands P [] each = tt
 each_stands P (x ∷ xs) each = (each 0 x refl, each_stands P xs (λ place y stands. each (suc place) y stands))
 
-small_dataset : (most : ℕ) (plain : PlainDataset) → IsPlainDataset most plain → IsSmall plain → AreSmallFiles plain
-small_dataset most plain is small =
+small_dataset : (most most_size : ℕ) (plain : PlainDataset) → IsPlainDataset most most_size plain → IsSmall plain → AreSmallFiles plain
+small_dataset most most_size plain is small =
     all_of_two IsPlainFile (λ (file : PlainFile). file.size ≤ most_file_bytes) IsSmallFile plain.files (λ file fits low. record { is = fits; small = low })
     (each_stands IsPlainFile plain.files is.files) small
 
 pub small_files : (pool : PlainPool) → IsPlain pool → AreSmall pool → AllByRecursion AreSmallFiles pool.datasets
 small_files pool is small =
-    all_of_two (IsPlainDataset (most_files pool)) IsSmall AreSmallFiles pool.datasets (small_dataset (most_files pool))
-    (each_stands (IsPlainDataset (most_files pool)) pool.datasets is.datasets) small
+    all_of_two (IsPlainDataset (most_files pool) (most_bytes pool)) IsSmall AreSmallFiles pool.datasets (small_dataset (most_files pool) (most_bytes pool))
+    (each_stands (IsPlainDataset (most_files pool) (most_bytes pool)) pool.datasets is.datasets) small
 
 few_files : (pool : PlainPool) → IsPlain pool → AllByRecursion (λ (plain : PlainDataset). length plain.files ≤ most_files pool) pool.datasets
 few_files pool is =
-    all_mapped (IsPlainDataset (most_files pool)) (λ (plain : PlainDataset). length plain.files ≤ most_files pool) pool.datasets (λ plain fits. fits.few)
-    (each_stands (IsPlainDataset (most_files pool)) pool.datasets is.datasets)
+    all_mapped (IsPlainDataset (most_files pool) (most_bytes pool)) (λ (plain : PlainDataset). length plain.files ≤ most_files pool) pool.datasets (λ plain fits. fits.few)
+    (each_stands (IsPlainDataset (most_files pool) (most_bytes pool)) pool.datasets is.datasets)
 
 -- ---- new blocks
 

@@ -7,7 +7,7 @@ use Rattle.zc_damage.specs.declared.block.FoundBlock.{FoundBlock}
 use Rattle.zc_state.specs.State.{State, IsState}
 use Rattle.zc_next.specs.Next.{later_tree}
 use Rattle.zc_plain.specs.declared.plain_pool.PlainPool.{PlainPool}
-use Rattle.zc_plain.specs.History.{begun}
+use Rattle.zc_plain.specs.History.{PlainState, begun}
 use Rattle.zc_plain.specs.IsPlain.{IsPlain, AreNextUpTo, IsState as IsPlainState}
 use Rattle.zc_pool.specs.Kept.{HasSize, HasPlaces}
 use Rattle.zc_pool.specs.Imported.{claimed_state, IsTaken, IsTakenUp}
@@ -33,15 +33,19 @@ held_plain pool limits tree blocks is taken = subst IsPlain (sym is) (copied_is_
 pub held_numbers : (pool : PlainPool) (limits : Limits) (tree : Tree) (blocks : List FoundBlock) → pool ≡ copied_pool limits tree blocks → IsTaken limits tree → AreNextUpTo (2 ^ 62) pool
 held_numbers pool limits tree blocks is taken = subst (AreNextUpTo (2 ^ 62)) (sym is) (copied_numbers limits tree blocks taken)
 
--- so what is held is steady
-steady_begun : (shape : Shape) (root : Root) (blocks : List FoundBlock) → IsTaken root.limits root.tree → HasSize shape root → HasPlaces root
+-- no entry was made yet
+pub held_begun : (plain : PlainState) (pool : PlainPool) → plain ≡ begun pool → plain ≡ begun plain.pool
+held_begun plain pool is = is ∙ ap (λ (state : PlainState). begun state.pool) (sym is)
+
+-- so what is held is steady, where it is a state that a history leads to
+steady_begun : (shape : Shape) (root : Root) (blocks : List FoundBlock) → IsPlainState (begun (copied_pool root.limits root.tree blocks)) → IsTaken root.limits root.tree → HasSize shape root → HasPlaces root
     → IsSteady shape (record { root = root; plain = begun (copied_pool root.limits root.tree blocks); mark = 0 })
-steady_begun shape root blocks taken size places = record {
+steady_begun shape root blocks state taken size places = record {
   size = size;
   places = places;
   few_datasets = taken.few_datasets;
   datasets = taken.datasets;
-  plain = record { plain = copied_is_plain root.limits root.tree blocks taken; counted = copied_numbers root.limits root.tree blocks taken };
+  plain = state;
   limits = refl;
   named = copied_named root.limits root.tree blocks taken;
   small = copied_small root.limits root.tree blocks taken.small;
@@ -50,11 +54,11 @@ steady_begun shape root blocks taken size places = record {
 }
 
 pub held_steady : (live : Live) (imported : Imported) → live.root ≡ imported.root → live.plain ≡ begun (copied_pool imported.root.limits imported.root.tree imported.blocks) → live.mark ≡ 0
-    → IsTaken imported.root.limits imported.root.tree → (shape : Shape) → HasSize shape imported.root → HasPlaces imported.root → IsSteady shape live
-held_steady live imported root_is plain_is mark_is taken shape size places =
+    → IsPlainState live.plain → IsTaken imported.root.limits imported.root.tree → (shape : Shape) → HasSize shape imported.root → HasPlaces imported.root → IsSteady shape live
+held_steady live imported root_is plain_is mark_is state taken shape size places =
     let whole : live ≡ record { root = imported.root; plain = begun (copied_pool imported.root.limits imported.root.tree imported.blocks); mark = 0 } =
     λ i. record { root = root_is i; plain = plain_is i; mark = mark_is i } in
-    subst (IsSteady shape) (sym whole) (steady_begun shape imported.root imported.blocks taken size places)
+    subst (IsSteady shape) (sym whole) (steady_begun shape imported.root imported.blocks (subst IsPlainState plain_is state) taken size places)
 
 -- ---- on a tape that is told
 

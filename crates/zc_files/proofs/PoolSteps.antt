@@ -9,6 +9,7 @@ use Rattle.zc_plain.specs.declared.plain_pool.PlainBlock.TheVariants.{Hole, Made
 use Rattle.zc_plain.specs.declared.plain_pool.PlainFile.{PlainFile}
 use Rattle.zc_plain.specs.declared.plain_pool.PlainDataset.{PlainDataset}
 use Rattle.zc_plain.specs.declared.plain_pool.PlainPool.{PlainPool}
+use Rattle.zc_plain.specs.declared.tally.Tally.{Tally}
 use Rattle.zc_plain.specs.PlainPool.{blocks_of_size, block_at, new_file, new_dataset, with_new_file, in_files}
 use Rattle.zc_plain.specs.Written.{touches, made_block, written_block, written}
 use Rattle.zc_plain.specs.Answer.{answer}
@@ -23,9 +24,9 @@ use Rattle.zc_files.proofs.CommandKeeps.{kept_behind}
 
 -- ---- the size of the disks
 
-pub limits_behind : (number : ℕ) (pool : PlainPool) (command : Command) → AreConditions command → StaysSmall command → (next_of pool (answer number pool command)).limits ≡ pool.limits
-limits_behind number pool command conditions small =
-    kept_behind (λ next. next.limits ≡ pool.limits) number pool refl (λ name is. refl) (λ place name is. refl) (λ path offset bytes some fits. refl) command conditions small
+pub limits_behind : (number : ℕ) (tally : Tally) (pool : PlainPool) (command : Command) → AreConditions command → StaysSmall command → (next_of pool (answer number tally pool command)).limits ≡ pool.limits
+limits_behind number tally pool command conditions small =
+    kept_behind (λ next. next.limits ≡ pool.limits) number tally pool refl (λ name is. refl) (λ place name is. refl) (λ path offset bytes some fits. refl) command conditions small
 
 -- ---- names
 
@@ -36,9 +37,9 @@ named_files number place offset bytes dataset named = (
       (λ file is. subst IsName (sym (name_of_written number offset bytes file)) is) named.1,
 )
 
-pub named_behind : (number : ℕ) (pool : PlainPool) (command : Command) → AreConditions command → StaysSmall command → AreNamed pool → AreNamed (next_of pool (answer number pool command))
-named_behind number pool command conditions small named =
-    kept_behind AreNamed number pool named
+pub named_behind : (number : ℕ) (tally : Tally) (pool : PlainPool) (command : Command) → AreConditions command → StaysSmall command → AreNamed pool → AreNamed (next_of pool (answer number tally pool command))
+named_behind number tally pool command conditions small named =
+    kept_behind AreNamed number tally pool named
     (λ name is. all_more IsNamed pool.datasets (new_dataset pool.next_dataset name) named (is, tt))
     (λ place name is. all_changed IsNamed (with_new_file name) place pool.datasets
     (λ dataset has. (has.0, all_more (λ (file : PlainFile). IsName file.name) dataset.files (new_file dataset.next_file name) has.1 is)) named)
@@ -51,9 +52,9 @@ named_behind number pool command conditions small named =
 small_written : (number offset : ℕ) (bytes : List ℕ) (file : PlainFile) → offset + length bytes ≤ most_file_bytes → file.size ≤ most_file_bytes → (written number offset bytes file).size ≤ most_file_bytes
 small_written number offset bytes file fits few = omega (arith, size_of_written number offset bytes file, fits, few)
 
-pub small_behind : (number : ℕ) (pool : PlainPool) (command : Command) → AreConditions command → StaysSmall command → AreSmall pool → AreSmall (next_of pool (answer number pool command))
-small_behind number pool command conditions small are =
-    kept_behind AreSmall number pool are
+pub small_behind : (number : ℕ) (tally : Tally) (pool : PlainPool) (command : Command) → AreConditions command → StaysSmall command → AreSmall pool → AreSmall (next_of pool (answer number tally pool command))
+small_behind number tally pool command conditions small are =
+    kept_behind AreSmall number tally pool are
     (λ name is. all_more IsSmall pool.datasets (new_dataset pool.next_dataset name) are tt)
     (λ place name is. all_changed IsSmall (with_new_file name) place pool.datasets
     (λ dataset has. all_more (λ (file : PlainFile). file.size ≤ most_file_bytes) dataset.files (new_file dataset.next_file name) has (omega arith)) are)
@@ -104,10 +105,10 @@ stamped_written number offset bytes file all =
     all_of_each (IsMadeBy number) (blocks_of_size (max file.size (offset + length bytes))) (written_block number offset bytes file.blocks)
     (λ index within. written_is_made number offset bytes file.blocks index all)
 
-pub stamped_behind : (last number : ℕ) (pool : PlainPool) (command : Command) → last ≤ number → AreConditions command → StaysSmall command → AreStamped last pool → AreStamped number (next_of pool (answer number pool command))
-stamped_behind last number pool command later conditions small are =
+pub stamped_behind : (last number : ℕ) (tally : Tally) (pool : PlainPool) (command : Command) → last ≤ number → AreConditions command → StaysSmall command → AreStamped last pool → AreStamped number (next_of pool (answer number tally pool command))
+stamped_behind last number tally pool command later conditions small are =
     let stamped : AreStamped number pool = later_pool last number pool later are in
-    kept_behind (AreStamped number) number pool stamped
+    kept_behind (AreStamped number) number tally pool stamped
     (λ name is. all_more (IsStamped number) pool.datasets (new_dataset pool.next_dataset name) stamped tt)
     (λ place name is. all_changed (IsStamped number) (with_new_file name) place pool.datasets
     (λ dataset has. all_more (AreMadeBy number) dataset.files (new_file dataset.next_file name) has tt) stamped)

@@ -28,11 +28,11 @@ steady_one_more shape live session command conditions small steady =
       places = steady.places;
       few_datasets = steady.few_datasets;
       datasets = steady.datasets;
-      plain = state_after_step live.plain (Ask session command) steady.plain;
-      limits = limits_behind number live.plain.pool command conditions small ∙ steady.limits;
-      named = named_behind number live.plain.pool command conditions small steady.named;
-      small = small_behind number live.plain.pool command conditions small steady.small;
-      stamped = stamped_behind live.plain.entries number live.plain.pool command (omega arith) conditions small steady.stamped;
+      plain = state_after_step live.plain (Ask session command) conditions steady.plain;
+      limits = limits_behind number live.plain.tally live.plain.pool command conditions small ∙ steady.limits;
+      named = named_behind number live.plain.tally live.plain.pool command conditions small steady.named;
+      small = small_behind number live.plain.tally live.plain.pool command conditions small steady.small;
+      stamped = stamped_behind live.plain.entries number live.plain.tally live.plain.pool command (omega arith) conditions small steady.stamped;
       marked = omega (arith, steady.marked);
     }
 
@@ -43,7 +43,7 @@ live_one_more shape t s live session command conditions small marked is = record
   told = is.told;
   at_rest = is.at_rest;
   keeps = is.keeps;
-  tracks = tracks_behind s.blocks live.mark (next_number live.plain) live.plain.pool s.parts.tree.datasets command (omega (arith, marked)) conditions small is.tracks;
+  tracks = tracks_behind s.blocks live.mark (next_number live.plain) live.plain.tally live.plain.pool s.parts.tree.datasets command (omega (arith, marked)) conditions small is.tracks;
 }
 
 -- whatever a command came to

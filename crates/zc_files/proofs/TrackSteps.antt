@@ -12,6 +12,7 @@ use Rattle.zc_plain.specs.declared.plain_pool.PlainBlock.{PlainBlock}
 use Rattle.zc_plain.specs.declared.plain_pool.PlainFile.{PlainFile}
 use Rattle.zc_plain.specs.declared.plain_pool.PlainDataset.{PlainDataset}
 use Rattle.zc_plain.specs.declared.plain_pool.PlainPool.{PlainPool}
+use Rattle.zc_plain.specs.declared.tally.Tally.{Tally}
 use Rattle.zc_plain.specs.PlainPool.{blocks_of_size, block_at, new_file, new_dataset, with_new_file, in_files}
 use Rattle.zc_plain.specs.Written.{touches, made_block, written_block, written}
 use Rattle.zc_plain.specs.Answer.{answer}
@@ -78,10 +79,10 @@ module _ (blocks : List FoundBlock) (mark : ℕ) where
 
   -- ---- a command
 
-  pub tracks_behind : (number : ℕ) (pool : PlainPool) (datasets : List Dataset) (command : Command) → mark < number → AreConditions command → StaysSmall command → TracksDatasets blocks mark datasets pool.datasets
-      → TracksDatasets blocks mark datasets (next_of pool (answer number pool command)).datasets
-  tracks_behind number pool datasets command behind conditions small tracks =
-      kept_behind (λ next. TracksDatasets blocks mark datasets next.datasets) number pool tracks
+  pub tracks_behind : (number : ℕ) (tally : Tally) (pool : PlainPool) (datasets : List Dataset) (command : Command) → mark < number → AreConditions command → StaysSmall command → TracksDatasets blocks mark datasets pool.datasets
+      → TracksDatasets blocks mark datasets (next_of pool (answer number tally pool command)).datasets
+  tracks_behind number tally pool datasets command behind conditions small tracks =
+      kept_behind (λ next. TracksDatasets blocks mark datasets next.datasets) number tally pool tracks
       (λ name is. tracks_new_dataset datasets pool.datasets pool.next_dataset name tracks)
       (λ place name is. tracks_changed_dataset (with_new_file name) place datasets pool.datasets (λ files plain files_tracked. tracks_new_file files plain.files plain.next_file name files_tracked) tracks)
       (λ path offset bytes some fits. tracks_changed_dataset (in_files path.file (written number offset bytes)) path.dataset datasets pool.datasets

@@ -6,7 +6,7 @@ use Rattle.zc_tape.specs.Crash.{May, EachCrash, AtRest, reads}
 use Rattle.zc_tree.specs.Catalogue.{AreDatasets}
 use Rattle.zc_command.specs.Names.{IsName}
 use Rattle.zc_command.specs.declared.command.Command.{Command}
-use Rattle.zc_command.specs.declared.command.Command.TheVariants.{Mkds, Create, Write, Read, Commit}
+use Rattle.zc_command.specs.declared.command.Command.TheVariants.{Mkds, Rmds, Mount, Create, Remove, Write, Fill, Truncate, Read, Stat, Commit}
 use Rattle.zc_state.specs.State.{State, StandsFor}
 use Rattle.zc_plain.specs.declared.plain_pool.PlainBlock.{PlainBlock}
 use Rattle.zc_plain.specs.declared.plain_pool.PlainBlock.TheVariants.{Hole, Made}
@@ -46,12 +46,18 @@ IsStamped last dataset = AllByRecursion (λ (file : PlainFile). AllByRecursion (
 abbrev pub AreStamped : ℕ → PlainPool → Type 0
 AreStamped last pool = AllByRecursion (IsStamped last) pool.datasets
 
--- a command leaves every file small
+-- the command is one that an open pool takes, and it leaves every file small
 abbrev pub StaysSmall : Command → Type 0
 StaysSmall (Mkds dataset) = Unit {0}
+StaysSmall (Rmds dataset) = ⊥
+StaysSmall (Mount dataset) = ⊥
 StaysSmall (Create dataset file) = Unit {0}
+StaysSmall (Remove dataset file) = ⊥
 StaysSmall (Write dataset file offset bytes) = offset + length bytes ≤ most_file_bytes
+StaysSmall (Fill dataset file offset len byte) = ⊥
+StaysSmall (Truncate dataset file size) = ⊥
 StaysSmall (Read dataset file offset len) = Unit {0}
+StaysSmall (Stat dataset file) = ⊥
 StaysSmall Commit = Unit {0}
 
 -- what is known of the values in memory, whatever the disks hold

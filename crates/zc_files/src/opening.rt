@@ -8,6 +8,7 @@ ghost use Rattle.zc_layout.specs.Standing.{HasNoRoot};
 ghost use Rattle.zc_state.specs.State.{State, StandsFor, IsFresh};
 ghost use Rattle.zc_image.specs.Answers.{IsWhole};
 ghost use Rattle.zc_plain.specs.History.{begun};
+ghost use Rattle.zc_plain.specs.IsPlain.{IsState};
 ghost use Rattle.zc_pool.specs.Committed.{LeavesEither};
 ghost use Rattle.zc_pool.specs.Imported.{size_hit, claimed_state, taken_back, IsTaken, IsNoAnswer, IsDamageOf};
 ghost use Rattle.zc_files.specs.Copied.{copied_pool, AreWhole};
@@ -32,8 +33,9 @@ pub fn open<D: DiskSet>(alloc: Global, disks: D) -> Result<(D, Live), (ImportFau
     ensures told { (D.tape (taken_back result)).told ≡ (D.tape disks).told }
     ensures extends { IsTrue (D.tape disks).told → Extends (D.tape disks) (D.tape (taken_back result)) }
 
-    // What is held in memory fits together, whatever the disks gave, and its numbers are low.
+    // What is held in memory fits together, whatever the disks gave; there was no entry yet, and its numbers are low.
     ensures steady { IfOk result (λ opened. IsSteady (D.shape disks) opened.1) }
+    ensures no_entry { IfOk result (λ opened. opened.1.plain ≡ begun opened.1.plain.pool) }
     ensures fresh_numbers { IfOk result (λ opened. (opened.1.plain.entries ≡ 0) × (opened.1.mark ≡ 0) × (1 ≤ opened.1.root.tree.group) × (opened.1.root.tree.group ≤ 2 ^ 62 + 1)) }
 
     // Wherever it is cut short, the state stands that stood there, or that of the claim group.
@@ -70,14 +72,16 @@ fn hold(alloc: Global, imported: Imported) -> Result<Live, NoMemory>
     requires tree { IsTaken imported.root.limits imported.root.tree }
     ensures root { IfOk result (λ live. live.root ≡ imported.root) }
     ensures plain { IfOk result (λ live. live.plain ≡ begun (copied_pool imported.root.limits imported.root.tree imported.blocks)) }
+    ensures state { IfOk result (λ live. IsState live.plain) }
     ensures mark { IfOk result (λ live. live.mark ≡ 0) }
     ensures whole { IfOk result (λ _. AreWhole imported.blocks) }
 {
     let Imported { root, blocks } = imported;
     let pool = plain_pool(alloc, root.limits, &root.tree, blocks.as_slice())?;
+    let plain = Plain::found(alloc, pool)?;
     Ok(Live {
-        plain: Plain::found(alloc, pool),
         root,
+        plain,
         mark: 0,
     })
 }

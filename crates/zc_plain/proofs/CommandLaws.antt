@@ -1,6 +1,6 @@
 -- What each command does to the files and the numbers of a pool.
 use Rattle.std.proofs.Common.{◌≡◌, ◌≢◌, ℕ, ◌+◌, ◌<◌, true, false, nat_lt, ◌==◌, List, [], ◌∷◌, length, Option, Some, None, Result, Ok, Err, refl, sym, ap, subst, ◌∙◌, ⊎_elim, arith}
-use Rattle.std.specs.Prelude.{slice_get, unwrap_or, is_some}
+use Rattle.std.specs.Prelude.{Bool, slice_get, unwrap_or, is_some, replicate}
 use Rattle.std.specs.Option.{option_map, ok_or}
 use Rattle.std.specs.Result.{result_ok}
 use Rattle.std.specs.Str.{bytes_eq}
@@ -10,7 +10,7 @@ use Rattle.zc_num.specs.Words.{change_at, found_from}
 use Rattle.zc_num.proofs.Changes.{get_of_change_at, other_of_change_at}
 use Rattle.zc_command.specs.Names.{names_of}
 use Rattle.zc_command.specs.declared.command.Command.{Command}
-use Rattle.zc_command.specs.declared.command.Command.TheVariants.{Mkds, Create, Write, Read, Commit}
+use Rattle.zc_command.specs.declared.command.Command.TheVariants.{Mkds, Rmds, Mount, Create, Remove, Write, Fill, Truncate, Read, Stat, Commit}
 use Rattle.zc_command.specs.declared.refusal.Part.TheVariants as part
 use Rattle.zc_command.specs.declared.refusal.Refusal.{Refusal}
 use Rattle.zc_command.specs.declared.refusal.Refusal.TheVariants.{Enoent, Eexist}
@@ -21,14 +21,17 @@ use Rattle.zc_plain.specs.declared.plain_pool.PlainFile.{PlainFile}
 use Rattle.zc_plain.specs.declared.plain_pool.PlainDataset.{PlainDataset}
 use Rattle.zc_plain.specs.declared.plain_pool.PlainPool.{PlainPool}
 use Rattle.zc_plain.specs.PlainPool.{new_file, new_dataset, dataset_at, file_at, with_new_file, in_dataset, in_files, in_file, bytes_from}
+use Rattle.zc_plain.specs.declared.tally.Tally.{Tally}
 use Rattle.zc_plain.specs.Written.{written}
+use Rattle.zc_plain.specs.Truncated.{truncated}
 use Rattle.zc_plain.specs.IsPlain.{StandsAt, IsPlain}
-use Rattle.zc_plain.specs.Answer.{◌>>=◌, refuse_long, most_datasets, most_files, dataset_place, file_place, dataset_of, path_of, file_of, mkds, create, write, read, named_answer, answer}
+use Rattle.zc_plain.specs.Answer.{◌>>=◌, refuse_long, most_datasets, most_files, dataset_place, file_place, dataset_of, path_of, file_of, refuse_end, refuse_charge, room_in_file, blocks_touched, blocks_cut, most_read, mkds, mount, create, put_some, put, write, fill, truncate, read, stat, named_answer, answer}
 use Rattle.zc_plain.proofs.NumberedLaws.{one_item}
 use Rattle.zc_plain.proofs.Places.{dataset_there, file_there}
 use Rattle.zc_plain.proofs.OtherLaws.{found_in_changed, new_with_file, file_of_in, found_passes, name_is, other_in_files, other_with_file, other_in_dataset, other_with_dataset}
-use Rattle.zc_plain.proofs.PlainLaws.{behind_test, behind_found, next_of, plain_file_at}
+use Rattle.zc_plain.proofs.PlainLaws.{behind_test, behind_found, behind_put, next_of, plain_file_at}
 use Rattle.zc_plain.proofs.WrittenLaws.{name_of_written, read_of_written}
+use Rattle.zc_plain.proofs.TruncatedLaws.{name_of_truncated}
 
 abbrev ok_of : ℕ → Result ℕ Refusal
 ok_of place = Ok place
@@ -94,15 +97,55 @@ file_at_is dataset file pool path d found stands =
 one_dataset : (pool : PlainPool) (place : ℕ) (a b : PlainDataset) → StandsAt pool.datasets place a → StandsAt pool.datasets place b → a ≡ b
 one_dataset pool place a b first second = one_item a b (sym first ∙ second)
 
--- a command changes no file but the one that it names
-other_after_named : (number : ℕ) (pool : PlainPool) (command : Command) (dataset file : List ℕ) → names_of command ≢ dataset ∷ file ∷ [] → file_of dataset file (next_of pool (named_answer number pool command)) ≡ file_of dataset file pool
-unfolding mkds create write read
-other_after_named number pool (Mkds name) dataset file other =
+-- a change of the file at a path, under its own name, changes no file of other names
+other_in_file : (owner name : List ℕ) (path : Path) (change : PlainFile → PlainFile) (dataset file : List ℕ) (pool : PlainPool) → ((f : PlainFile) → (change f).name ≡ f.name) → path_of owner name pool ≡ Ok path
+    → owner ∷ name ∷ [] ≢ dataset ∷ file ∷ [] → file_of dataset file (in_file path change pool) ≡ file_of dataset file pool
+other_in_file owner name path change dataset file pool keeps found other =
+    other_in_dataset path.dataset (in_files path.file change) dataset file pool (λ d. refl)
+    (λ d stands named. other_in_files path.file change file d keeps
+    (λ f f_stands same.
+    let owner_there = dataset_of_is owner pool path.dataset (path_of_is owner name pool path found).0 in
+    let file_there = file_at_is owner name pool path d found stands in
+    let owner_is : owner ≡ dataset = sym owner_there.2 ∙ ap (λ (x : PlainDataset). x.name) (one_dataset pool path.dataset owner_there.0 d owner_there.1 stands) ∙ named in
+    let name_is : name ≡ file = sym file_there.2 ∙ ap (λ (x : PlainFile). x.name) (one_item file_there.0 f (sym file_there.1 ∙ f_stands)) ∙ same in
+    let both : owner ∷ name ∷ [] ≡ dataset ∷ file ∷ [] = cc in
+    other both))
+
+-- the command takes a file or a dataset out
+abbrev pub is_removal : Command → Bool
+is_removal (Mkds dataset) = false
+is_removal (Rmds dataset) = true
+is_removal (Mount dataset) = false
+is_removal (Create dataset file) = false
+is_removal (Remove dataset file) = true
+is_removal (Write dataset file offset bytes) = false
+is_removal (Fill dataset file offset len byte) = false
+is_removal (Truncate dataset file size) = false
+is_removal (Read dataset file offset len) = false
+is_removal (Stat dataset file) = false
+is_removal Commit = false
+
+other_behind_write : (number : ℕ) (tally : Tally) (pool : PlainPool) (owner name : List ℕ) (offset : ℕ) (bytes : List ℕ) (dataset file : List ℕ) → owner ∷ name ∷ [] ≢ dataset ∷ file ∷ []
+    → file_of dataset file (next_of pool (write number owner name offset bytes tally pool)) ≡ file_of dataset file pool
+unfolding write
+other_behind_write number tally pool owner name offset bytes dataset file other =
+    let P = λ (r : Result (Reply × PlainPool) Refusal). file_of dataset file (next_of pool r) ≡ file_of dataset file pool in
+    behind_found P (path_of owner name pool) _ (λ refusal. refl)
+    (λ path found. behind_put P number path offset bytes tally pool (λ refusal. refl) refl (other_in_file owner name path (written number offset bytes) dataset file pool (name_of_written number offset bytes) found other))
+
+-- a command that takes nothing out changes no file but the one that it names
+other_after_named : (number : ℕ) (tally : Tally) (pool : PlainPool) (command : Command) (dataset file : List ℕ) → is_removal command ≡ false → names_of command ≢ dataset ∷ file ∷ []
+    → file_of dataset file (next_of pool (named_answer number tally pool command)) ≡ file_of dataset file pool
+unfolding mkds mount create fill truncate read stat
+other_after_named number tally pool (Mkds name) dataset file keeps other =
     let P = λ (r : Result (Reply × PlainPool) Refusal). file_of dataset file (next_of pool r) ≡ file_of dataset file pool in
     behind_test P (is_some (dataset_place name pool)) Eexist _ refl
     (λ missing. behind_test P (nat_lt most_datasets (length pool.datasets + 1)) _ _ refl
     (λ few. other_with_dataset name dataset file pool (is_none (dataset_place name pool) missing)))
-other_after_named number pool (Create owner name) dataset file other =
+other_after_named number tally pool (Rmds name) dataset file keeps other = cc
+other_after_named number tally pool (Mount name) dataset file keeps other =
+    behind_found (λ (r : Result (Reply × PlainPool) Refusal). file_of dataset file (next_of pool r) ≡ file_of dataset file pool) (dataset_of name pool) _ (λ refusal. refl) (λ place found. refl)
+other_after_named number tally pool (Create owner name) dataset file keeps other =
     let P = λ (r : Result (Reply × PlainPool) Refusal). file_of dataset file (next_of pool r) ≡ file_of dataset file pool in
     behind_found P (dataset_of owner pool) _ (λ refusal. refl)
     (λ place found. behind_test P (is_some (file_place name (dataset_at place pool))) Eexist _ refl
@@ -114,31 +157,27 @@ other_after_named number pool (Create owner name) dataset file other =
     let owner_is : owner ≡ dataset = sym there.2 ∙ ap (λ (x : PlainDataset). x.name) (one_dataset pool place there.0 d there.1 stands) ∙ named in
     let both : owner ∷ name ∷ [] ≡ dataset ∷ file ∷ [] = cc in
     other both)))))
-other_after_named number pool (Write owner name offset bytes) dataset file other =
+other_after_named number tally pool (Remove owner name) dataset file keeps other = cc
+other_after_named number tally pool (Write owner name offset bytes) dataset file keeps other = other_behind_write number tally pool owner name offset bytes dataset file other
+other_after_named number tally pool (Fill owner name offset len byte) dataset file keeps other = other_behind_write number tally pool owner name offset (replicate len byte) dataset file other
+other_after_named number tally pool (Truncate owner name size) dataset file keeps other =
     let P = λ (r : Result (Reply × PlainPool) Refusal). file_of dataset file (next_of pool r) ≡ file_of dataset file pool in
     behind_found P (path_of owner name pool) _ (λ refusal. refl)
-    (λ path found.
-    ⊎_elim
-    (λ (none : (length bytes == 0) ≡ true). rw none refl)
-    (λ (some : (length bytes == 0) ≡ false).
-    rw some (other_in_dataset path.dataset (in_files path.file (written number offset bytes)) dataset file pool (λ d. refl)
-    (λ d stands named. other_in_files path.file (written number offset bytes) file d (name_of_written number offset bytes)
-    (λ f f_stands same.
-    let owner_there = dataset_of_is owner pool path.dataset (path_of_is owner name pool path found).0 in
-    let file_there = file_at_is owner name pool path d found stands in
-    let owner_is : owner ≡ dataset = sym owner_there.2 ∙ ap (λ (x : PlainDataset). x.name) (one_dataset pool path.dataset owner_there.0 d owner_there.1 stands) ∙ named in
-    let name_is : name ≡ file = sym file_there.2 ∙ ap (λ (x : PlainFile). x.name) (one_item file_there.0 f (sym file_there.1 ∙ f_stands)) ∙ same in
-    let both : owner ∷ name ∷ [] ≡ dataset ∷ file ∷ [] = cc in
-    other both))))
-    (cases_Bool (length bytes == 0)))
-other_after_named number pool (Read owner name offset len) dataset file other =
+    (λ path found. behind_found P (refuse_end size pool) _ (λ refusal. refl)
+    (λ _ short. behind_found P (refuse_charge (blocks_cut tally size path pool) tally pool) _ (λ refusal. refl)
+    (λ _ free. other_in_file owner name path (truncated number size) dataset file pool (name_of_truncated number size) found other)))
+other_after_named number tally pool (Read owner name offset len) dataset file keeps other =
+    let P = λ (r : Result (Reply × PlainPool) Refusal). file_of dataset file (next_of pool r) ≡ file_of dataset file pool in
+    behind_found P (path_of owner name pool) _ (λ refusal. refl) (λ path found. behind_test P (nat_lt most_read len) _ _ refl (λ short. refl))
+other_after_named number tally pool (Stat owner name) dataset file keeps other =
     behind_found (λ (r : Result (Reply × PlainPool) Refusal). file_of dataset file (next_of pool r) ≡ file_of dataset file pool) (path_of owner name pool) _ (λ refusal. refl) (λ path found. refl)
-other_after_named number pool Commit dataset file other = refl
+other_after_named number tally pool Commit dataset file keeps other = refl
 
-pub other_files_stay : (number : ℕ) (pool : PlainPool) (command : Command) (dataset file : List ℕ) → names_of command ≢ dataset ∷ file ∷ [] → file_of dataset file (next_of pool (answer number pool command)) ≡ file_of dataset file pool
+pub other_files_stay : (number : ℕ) (tally : Tally) (pool : PlainPool) (command : Command) (dataset file : List ℕ) → is_removal command ≡ false → names_of command ≢ dataset ∷ file ∷ []
+    → file_of dataset file (next_of pool (answer number tally pool command)) ≡ file_of dataset file pool
 unfolding answer
-other_files_stay number pool command dataset file other =
-    behind_found (λ r. file_of dataset file (next_of pool r) ≡ file_of dataset file pool) (refuse_long command) _ (λ refusal. refl) (λ _ short. other_after_named number pool command dataset file other)
+other_files_stay number tally pool command dataset file keeps other =
+    behind_found (λ r. file_of dataset file (next_of pool r) ≡ file_of dataset file pool) (refuse_long command) _ (λ refusal. refl) (λ _ short. other_after_named number tally pool command dataset file keeps other)
 
 -- a change of a dataset that keeps its name moves none
 dataset_moved : (place : ℕ) (change : PlainDataset → PlainDataset) (dataset : List ℕ) (pool : PlainPool) → ((d : PlainDataset) → (change d).name ≡ d.name) → dataset_of dataset (in_dataset place change pool) ≡ dataset_of dataset pool
@@ -183,32 +222,33 @@ changed_at_path dataset file path change pool found =
 not_zero : (n : ℕ) → 0 < n → (n == 0) ≡ false
 not_zero n some = ⊎_elim (λ (zero : (n == 0) ≡ true). let is : n ≡ 0 = (Decides-eqb n 0).0 zero in absurd (omega arith)) (λ (other : (n == 0) ≡ false). other) (cases_Bool (n == 0))
 
--- the pool behind a write that isn't refused
-behind_write : (number : ℕ) (dataset file : List ℕ) (offset : ℕ) (bytes : List ℕ) (pool : PlainPool) (path : Path) → path_of dataset file pool ≡ Ok path → 0 < length bytes
-    → next_of pool (write number dataset file offset bytes pool) ≡ in_file path (written number offset bytes) pool
-unfolding write
-behind_write number dataset file offset bytes pool path found some = rw (found, not_zero (length bytes) some) refl
-
-behind_empty_write : (number : ℕ) (dataset file : List ℕ) (offset : ℕ) (pool : PlainPool) (path : Path) → path_of dataset file pool ≡ Ok path → next_of pool (write number dataset file offset [] pool) ≡ pool
-unfolding write
-behind_empty_write number dataset file offset pool path found = rw found refl
-
--- a write that isn't refused changes its file so, where it has bytes
-pub write_changes_its_file : (number : ℕ) (dataset file : List ℕ) (offset : ℕ) (bytes : List ℕ) (pool : PlainPool) (path : Path) → path_of dataset file pool ≡ Ok path → 0 < length bytes
-    → file_of dataset file (next_of pool (write number dataset file offset bytes pool)) ≡ option_map (written number offset bytes) (file_of dataset file pool)
-unfolding file_of
-write_changes_its_file number dataset file offset bytes pool path found some =
-    let change = written number offset bytes in
-    let still : path_of dataset file (in_file path change pool) ≡ Ok path = path_kept path change dataset file pool (name_of_written number offset bytes) ∙ found in
-    ap (λ (next : PlainPool). option_map (λ (p : Path). file_at p next) (result_ok (path_of dataset file next))) (behind_write number dataset file offset bytes pool path found some)
-    ∙ rw (still, found) (ap some_of (changed_at_path dataset file path change pool found))
-
 -- an answer that is Ok
 refused_answer : {A : Type 0} (refusal : Refusal) (reply : Reply) (next : PlainPool) → Err refusal ≡ answered reply next → A
 refused_answer refusal reply next e = cc
 
 one_answer : (a b : Reply) (p q : PlainPool) → answered a p ≡ answered b q → p ≡ q
 one_answer a b p q same = ap (next_of p) same
+
+-- the pool behind a write that isn't refused
+behind_write : (number : ℕ) (dataset file : List ℕ) (offset : ℕ) (bytes : List ℕ) (tally : Tally) (pool next : PlainPool) (reply : Reply) (path : Path) → path_of dataset file pool ≡ Ok path → 0 < length bytes
+    → write number dataset file offset bytes tally pool ≡ Ok (reply, next) → next ≡ in_file path (written number offset bytes) pool
+unfolding write put put_some
+behind_write number dataset file offset bytes tally pool next reply path found some done =
+    let Q = λ (r : Result (Reply × PlainPool) Refusal). r ≡ answered reply next → next ≡ in_file path (written number offset bytes) pool in
+    behind_found Q (room_in_file offset (length bytes) path pool) _ (λ refusal e. refused_answer refusal reply next e)
+    (λ _ room. behind_found Q (refuse_charge (blocks_touched tally offset (length bytes) path pool) tally pool) _ (λ refusal e. refused_answer refusal reply next e)
+    (λ _ free e. sym (one_answer _ reply _ next e)))
+    (rw (found, not_zero (length bytes) some) at done)
+
+-- a write that isn't refused changes its file so, where it has bytes
+pub write_changes_its_file : (number : ℕ) (dataset file : List ℕ) (offset : ℕ) (bytes : List ℕ) (tally : Tally) (pool next : PlainPool) (reply : Reply) (path : Path) → path_of dataset file pool ≡ Ok path → 0 < length bytes
+    → write number dataset file offset bytes tally pool ≡ Ok (reply, next) → file_of dataset file next ≡ option_map (written number offset bytes) (file_of dataset file pool)
+unfolding file_of
+write_changes_its_file number dataset file offset bytes tally pool next reply path found some done =
+    let change = written number offset bytes in
+    let still : path_of dataset file (in_file path change pool) ≡ Ok path = path_kept path change dataset file pool (name_of_written number offset bytes) ∙ found in
+    ap (λ (after : PlainPool). option_map (λ (p : Path). file_at p after) (result_ok (path_of dataset file after))) (behind_write number dataset file offset bytes tally pool next reply path found some done)
+    ∙ rw (still, found) (ap some_of (changed_at_path dataset file path change pool found))
 
 -- the file that a command made
 new_file_found : (dataset file : List ℕ) (pool : PlainPool) (place : ℕ) → dataset_of dataset pool ≡ Ok place → file_place file (dataset_at place pool) ≡ None
@@ -234,26 +274,26 @@ create_makes_a_file dataset file pool next place reply found created =
     subst (λ (p : PlainPool). file_of dataset file p ≡ Some (new_file (dataset_at place pool).next_file file)) (one_answer _ reply _ next is) (new_file_found dataset file pool place found (is_none (file_place file (dataset_at place pool)) missing))))
     (rw found at created)
 
--- a read of no bytes gives none
-read_of_nothing : (offset : ℕ) (file : PlainFile) → bytes_from offset 0 file ≡ []
-unfolding bytes_from
-read_of_nothing offset file = refl
-
 -- what a read of a file that is there gives
-read_at_path : (dataset file : List ℕ) (offset len : ℕ) (pool : PlainPool) (path : Path) → path_of dataset file pool ≡ Ok path → read dataset file offset len pool ≡ Ok (Data (bytes_from offset len (file_at path pool)), pool)
+read_at_path : (dataset file : List ℕ) (offset len : ℕ) (pool : PlainPool) (path : Path) → path_of dataset file pool ≡ Ok path → nat_lt most_read len ≡ false → read dataset file offset len pool ≡ Ok (Data (bytes_from offset len (file_at path pool)), pool)
 unfolding read
-read_at_path dataset file offset len pool path found = rw found refl
+read_at_path dataset file offset len pool path found short = rw (found, short) refl
 
--- a read of the range that was written, behind the write, gives the bytes
-pub read_after_write : (number : ℕ) (dataset file : List ℕ) (offset : ℕ) (bytes : List ℕ) (pool : PlainPool) (path : Path) → IsPlain pool → path_of dataset file pool ≡ Ok path
-    → read dataset file offset (length bytes) (next_of pool (write number dataset file offset bytes pool)) ≡ Ok (Data bytes, next_of pool (write number dataset file offset bytes pool))
-read_after_write number dataset file offset [] pool path plain found =
-    rw (behind_empty_write number dataset file offset pool path found, read_at_path dataset file offset 0 pool path found, read_of_nothing offset (file_at path pool)) refl
-read_after_write number dataset file offset (byte ∷ rest) pool path plain found =
-    let bytes : List ℕ = byte ∷ rest in
+-- a read of the range that was written, behind a write that isn't refused, gives the bytes
+pub read_after_write : (number : ℕ) (dataset file : List ℕ) (offset : ℕ) (bytes : List ℕ) (tally : Tally) (pool next : PlainPool) (reply : Reply) (path : Path) → IsPlain pool → path_of dataset file pool ≡ Ok path
+    → 0 < length bytes → nat_lt most_read (length bytes) ≡ false → write number dataset file offset bytes tally pool ≡ Ok (reply, next) → read dataset file offset (length bytes) next ≡ Ok (Data bytes, next)
+read_after_write number dataset file offset bytes tally pool next reply path plain found some short done =
     let change = written number offset bytes in
-    let next = in_file path change pool in
-    let still : path_of dataset file next ≡ Ok path = path_kept path change dataset file pool (name_of_written number offset bytes) ∙ found in
-    let is : bytes_from offset (length bytes) (file_at path next) ≡ bytes = ap (bytes_from offset (length bytes)) (changed_at_path dataset file path change pool found) ∙ read_of_written number offset bytes (file_at path pool) (plain_file_at pool path plain) in
-    let given : read dataset file offset (length bytes) next ≡ answered (Data bytes) next = read_at_path dataset file offset (length bytes) next path still ∙ ap (λ (bs : List ℕ). answered (Data bs) next) is in
-    subst (λ (p : PlainPool). read dataset file offset (length bytes) p ≡ answered (Data bytes) p) (sym (behind_write number dataset file offset bytes pool path found (omega arith))) given
+    let after = in_file path change pool in
+    let still : path_of dataset file after ≡ Ok path = path_kept path change dataset file pool (name_of_written number offset bytes) ∙ found in
+    let is : bytes_from offset (length bytes) (file_at path after) ≡ bytes = ap (bytes_from offset (length bytes)) (changed_at_path dataset file path change pool found) ∙ read_of_written number offset bytes (file_at path pool) (plain_file_at pool path plain) in
+    let given : read dataset file offset (length bytes) after ≡ answered (Data bytes) after = read_at_path dataset file offset (length bytes) after path still short ∙ ap (λ (bs : List ℕ). answered (Data bs) after) is in
+    subst (λ (p : PlainPool). read dataset file offset (length bytes) p ≡ answered (Data bytes) p) (sym (behind_write number dataset file offset bytes tally pool next reply path found some done)) given
+
+-- the same behind a fill
+pub read_after_fill : (number : ℕ) (dataset file : List ℕ) (offset len byte : ℕ) (tally : Tally) (pool next : PlainPool) (reply : Reply) (path : Path) → IsPlain pool → path_of dataset file pool ≡ Ok path
+    → 0 < length (replicate len byte) → nat_lt most_read (length (replicate len byte)) ≡ false → fill number dataset file offset len byte tally pool ≡ Ok (reply, next)
+    → read dataset file offset (length (replicate len byte)) next ≡ Ok (Data (replicate len byte), next)
+unfolding fill
+read_after_fill number dataset file offset len byte tally pool next reply path plain found some short done =
+    read_after_write number dataset file offset (replicate len byte) tally pool next reply path plain found some short done

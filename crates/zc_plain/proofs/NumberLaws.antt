@@ -1,49 +1,32 @@
 -- No number is given twice: what a command finds keeps its number, and what it makes has one that was never given.
-use Rattle.std.proofs.Common.{◌≡◌, ℕ, ◌+◌, ◌≤◌, true, false, nat_lt, ◌==◌, List, length, Result, ◌⊎◌, inl, inr, refl, sym, ap, subst, ◌∙◌, ⊎_elim, arith}
-use Rattle.std.specs.Prelude.{is_some}
-use Rattle.std.proofs.lemmas.Bool.{cases_Bool}
+use Rattle.std.proofs.Common.{◌≡◌, ℕ, ◌+◌, nat_lt, List, length, Result, inl, inr, refl, sym, ap, subst, ◌∙◌, ⊎_elim, arith}
+use Rattle.std.specs.Prelude.{is_some, replicate}
 use Rattle.zc_command.specs.declared.command.Command.{Command}
-use Rattle.zc_command.specs.declared.command.Command.TheVariants.{Mkds, Create, Write, Read, Commit}
+use Rattle.zc_command.specs.declared.command.Command.TheVariants.{Mkds, Rmds, Mount, Create, Remove, Write, Fill, Truncate, Read, Stat, Commit}
 use Rattle.zc_command.specs.declared.refusal.Refusal.{Refusal}
 use Rattle.zc_command.specs.declared.refusal.Refusal.TheVariants.{Eexist}
 use Rattle.zc_command.specs.declared.reply.Reply.{Reply}
 use Rattle.zc_plain.specs.declared.plain_pool.PlainFile.{PlainFile}
 use Rattle.zc_plain.specs.declared.plain_pool.PlainDataset.{PlainDataset}
 use Rattle.zc_plain.specs.declared.plain_pool.PlainPool.{PlainPool}
-use Rattle.zc_plain.specs.PlainPool.{new_file, new_dataset, dataset_at, with_new_dataset, with_new_file, in_dataset, in_files}
+use Rattle.zc_plain.specs.PlainPool.{new_file, new_dataset, dataset_at, with_new_dataset, with_new_file, without_dataset, without_file, in_dataset, in_files}
+use Rattle.zc_plain.specs.declared.tally.Tally.{Tally}
 use Rattle.zc_plain.specs.Written.{written}
+use Rattle.zc_plain.specs.Truncated.{truncated}
 use Rattle.zc_plain.specs.IsPlain.{StandsAt}
-use Rattle.zc_plain.specs.Answer.{refuse_long, most_datasets, most_files, dataset_place, file_place, dataset_of, path_of, mkds, create, write, read, named_answer, answer}
-use Rattle.zc_plain.proofs.NumberedLaws.{stood_or_new, stood_or_changed}
-use Rattle.zc_plain.proofs.PlainLaws.{behind_test, behind_found, next_of}
+use Rattle.zc_plain.specs.Promises.{LivesOn, GivesNoNumberTwice}
+use Rattle.zc_plain.specs.Answer.{refuse_long, refuse_end, refuse_charge, blocks_cut, most_datasets, most_files, most_read, dataset_place, file_place, dataset_of, path_of, mkds, rmds, mount, create, remove, write, fill, truncate, read, stat, named_answer, answer}
+use Rattle.zc_plain.proofs.NumberedLaws.{stood_or_new, stood_or_changed, stood_before_removal, skipped}
+use Rattle.zc_plain.proofs.PlainLaws.{behind_test, behind_found, behind_put, next_of}
 use Rattle.zc_plain.proofs.WrittenLaws.{id_of_written, name_of_written}
-
--- a file was there with its number and its name, or its number was never given in the dataset
-abbrev pub IsOldOrNewFile : PlainDataset → PlainFile → Type 0
-IsOldOrNewFile before file = ((place : ℕ) × (was : PlainFile) × StandsAt before.files place was × (was.id ≡ file.id) × (was.name ≡ file.name)) ⊎ (before.next_file ≤ file.id)
-
--- the dataset later on: it is the same one, and its files are those that it had, or new ones
-pub record LivesOn (before after : PlainDataset) : Type 0 where
-  pub number : before.id ≡ after.id
-  pub name : before.name ≡ after.name
-  pub next : before.next_file ≤ after.next_file
-  pub files : (place : ℕ) (file : PlainFile) → StandsAt after.files place file → IsOldOrNewFile before file
-
--- a dataset was there, or its number was never given in the pool
-abbrev pub IsOldOrNew : PlainPool → PlainDataset → Type 0
-IsOldOrNew before dataset = ((place : ℕ) × (was : PlainDataset) × StandsAt before.datasets place was × LivesOn was dataset) ⊎ (before.next_dataset ≤ dataset.id)
-
--- the pool later on
-pub record GivesNoNumberTwice (before after : PlainPool) : Type 0 where
-  pub next : before.next_dataset ≤ after.next_dataset
-  pub datasets : (place : ℕ) (dataset : PlainDataset) → StandsAt after.datasets place dataset → IsOldOrNew before dataset
+use Rattle.zc_plain.proofs.TruncatedLaws.{id_of_truncated, name_of_truncated}
 
 -- a dataset that stays as it is
 lives_on : (dataset : PlainDataset) → LivesOn dataset dataset
 lives_on dataset = record { number = refl; name = refl; next = omega arith; files = λ place file stands. inl (place, file, stands, refl, refl) }
 
 -- a pool that stays as it is
-unchanged : (pool : PlainPool) → GivesNoNumberTwice pool pool
+pub unchanged : (pool : PlainPool) → GivesNoNumberTwice pool pool
 unchanged pool = record { next = omega arith; datasets = λ place dataset stands. inl (place, dataset, stands, lives_on dataset) }
 
 -- a dataset with a new file
@@ -93,33 +76,67 @@ in_place at change pool lives = record {
       was.2;
 }
 
-no_number_twice_named : (number : ℕ) (pool : PlainPool) (command : Command) → GivesNoNumberTwice pool (next_of pool (named_answer number pool command))
-unfolding mkds create write read
-no_number_twice_named number pool (Mkds dataset) =
+-- a dataset without a file
+less_file : (at : ℕ) (dataset : PlainDataset) → LivesOn dataset (without_file at dataset)
+less_file at dataset = record {
+  number = refl;
+  name = refl;
+  next = omega arith;
+  files = λ place file stands. inl (skipped at place, file, stood_before_removal at dataset.files place file stands, refl, refl);
+}
+
+-- a pool without a dataset
+less_dataset : (at : ℕ) (pool : PlainPool) → GivesNoNumberTwice pool (without_dataset at pool)
+less_dataset at pool = record {
+  next = omega arith;
+  datasets = λ place dataset stands. inl (skipped at place, dataset, stood_before_removal at pool.datasets place dataset stands, lives_on dataset);
+}
+
+-- a pool with bytes written into a file
+behind_written : (number : ℕ) (dataset file : List ℕ) (offset : ℕ) (bytes : List ℕ) (tally : Tally) (pool : PlainPool) → GivesNoNumberTwice pool (next_of pool (write number dataset file offset bytes tally pool))
+unfolding write
+behind_written number dataset file offset bytes tally pool =
+    let P = λ (r : Result (Reply × PlainPool) Refusal). GivesNoNumberTwice pool (next_of pool r) in
+    behind_found P (path_of dataset file pool) _ (λ refusal. unchanged pool)
+    (λ path found. behind_put P number path offset bytes tally pool (λ refusal. unchanged pool) (unchanged pool)
+    (in_place path.dataset (in_files path.file (written number offset bytes)) pool (λ d. with_change path.file (written number offset bytes) d (id_of_written number offset bytes) (name_of_written number offset bytes))))
+
+no_number_twice_named : (number : ℕ) (tally : Tally) (pool : PlainPool) (command : Command) → GivesNoNumberTwice pool (next_of pool (named_answer number tally pool command))
+unfolding mkds rmds mount create remove fill truncate read stat
+no_number_twice_named number tally pool (Mkds dataset) =
     let P = λ (r : Result (Reply × PlainPool) Refusal). GivesNoNumberTwice pool (next_of pool r) in
     behind_test P (is_some (dataset_place dataset pool)) Eexist _ (unchanged pool)
     (λ missing. behind_test P (nat_lt most_datasets (length pool.datasets + 1)) _ _ (unchanged pool) (λ few. with_dataset dataset pool))
-no_number_twice_named number pool (Create dataset file) =
+no_number_twice_named number tally pool (Rmds dataset) =
+    behind_found (λ (r : Result (Reply × PlainPool) Refusal). GivesNoNumberTwice pool (next_of pool r)) (dataset_of dataset pool) _ (λ refusal. unchanged pool) (λ place found. less_dataset place pool)
+no_number_twice_named number tally pool (Mount dataset) =
+    behind_found (λ (r : Result (Reply × PlainPool) Refusal). GivesNoNumberTwice pool (next_of pool r)) (dataset_of dataset pool) _ (λ refusal. unchanged pool) (λ place found. unchanged pool)
+no_number_twice_named number tally pool (Create dataset file) =
     let P = λ (r : Result (Reply × PlainPool) Refusal). GivesNoNumberTwice pool (next_of pool r) in
     behind_found P (dataset_of dataset pool) _ (λ refusal. unchanged pool)
     (λ place found. behind_test P (is_some (file_place file (dataset_at place pool))) Eexist _ (unchanged pool)
     (λ missing. behind_test P (nat_lt (most_files pool) (length (dataset_at place pool).files + 1)) _ _ (unchanged pool)
     (λ few. in_place place (with_new_file file) pool (with_file file))))
-no_number_twice_named number pool (Write dataset file offset bytes) =
+no_number_twice_named number tally pool (Remove dataset file) =
+    behind_found (λ (r : Result (Reply × PlainPool) Refusal). GivesNoNumberTwice pool (next_of pool r)) (path_of dataset file pool) _ (λ refusal. unchanged pool)
+    (λ path found. in_place path.dataset (without_file path.file) pool (less_file path.file))
+no_number_twice_named number tally pool (Write dataset file offset bytes) = behind_written number dataset file offset bytes tally pool
+no_number_twice_named number tally pool (Fill dataset file offset len byte) = behind_written number dataset file offset (replicate len byte) tally pool
+no_number_twice_named number tally pool (Truncate dataset file size) =
     let P = λ (r : Result (Reply × PlainPool) Refusal). GivesNoNumberTwice pool (next_of pool r) in
     behind_found P (path_of dataset file pool) _ (λ refusal. unchanged pool)
-    (λ path found.
-    ⊎_elim
-    (λ (none : (length bytes == 0) ≡ true). rw none (unchanged pool))
-    (λ (some : (length bytes == 0) ≡ false).
-    rw some (in_place path.dataset (in_files path.file (written number offset bytes)) pool (λ d. with_change path.file (written number offset bytes) d (id_of_written number offset bytes) (name_of_written number offset bytes))))
-    (cases_Bool (length bytes == 0)))
-no_number_twice_named number pool (Read dataset file offset len) =
+    (λ path found. behind_found P (refuse_end size pool) _ (λ refusal. unchanged pool)
+    (λ _ short. behind_found P (refuse_charge (blocks_cut tally size path pool) tally pool) _ (λ refusal. unchanged pool)
+    (λ _ free. in_place path.dataset (in_files path.file (truncated number size)) pool (λ d. with_change path.file (truncated number size) d (id_of_truncated number size) (name_of_truncated number size)))))
+no_number_twice_named number tally pool (Read dataset file offset len) =
+    let P = λ (r : Result (Reply × PlainPool) Refusal). GivesNoNumberTwice pool (next_of pool r) in
+    behind_found P (path_of dataset file pool) _ (λ refusal. unchanged pool) (λ path found. behind_test P (nat_lt most_read len) _ _ (unchanged pool) (λ short. unchanged pool))
+no_number_twice_named number tally pool (Stat dataset file) =
     behind_found (λ (r : Result (Reply × PlainPool) Refusal). GivesNoNumberTwice pool (next_of pool r)) (path_of dataset file pool) _ (λ refusal. unchanged pool) (λ path found. unchanged pool)
-no_number_twice_named number pool Commit = unchanged pool
+no_number_twice_named number tally pool Commit = unchanged pool
 
 -- no command gives a number twice
-pub no_number_twice : (number : ℕ) (pool : PlainPool) (command : Command) → GivesNoNumberTwice pool (next_of pool (answer number pool command))
+pub no_number_twice : (number : ℕ) (tally : Tally) (pool : PlainPool) (command : Command) → GivesNoNumberTwice pool (next_of pool (answer number tally pool command))
 unfolding answer
-no_number_twice number pool command =
-    behind_found (λ r. GivesNoNumberTwice pool (next_of pool r)) (refuse_long command) _ (λ refusal. unchanged pool) (λ _ short. no_number_twice_named number pool command)
+no_number_twice number tally pool command =
+    behind_found (λ r. GivesNoNumberTwice pool (next_of pool r)) (refuse_long command) _ (λ refusal. unchanged pool) (λ _ short. no_number_twice_named number tally pool command)

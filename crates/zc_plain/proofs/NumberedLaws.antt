@@ -1,6 +1,7 @@
 -- Lists of items with numbers and names, once an item is added or changed.
 use Rattle.std.proofs.Common.{◌≡◌, ◌≢◌, ℕ, zero, suc, ◌+◌, ◌<◌, ◌≤◌, true, false, List, [], ◌∷◌, ◌++◌, length, get_or, Option, Some, None, ◌⊎◌, inl, inr, refl, sym, ap, subst, ◌∙◌, ⊎_elim, arith}
-use Rattle.std.specs.Prelude.{is_some}
+use Rattle.std.specs.Prelude.{is_some, remove}
+use Rattle.std.proofs.lemmas.List.{length-append, length-take, length-drop}
 use Rattle.std.specs.Str.{bytes_eq}
 use Rattle.std.proofs.lemmas.Option.{slice_get_within, get_or_from_slice_get}
 use Rattle.std.proofs.lemmas.Slice.Eq.{bytes_eq-Decides}
@@ -123,3 +124,38 @@ numbered_changed {X} number_of name_of next f place xs keeps_number keeps_name n
         ⊎_elim (λ (same : y ≡ was.0). (was.0, was.1, ap number_of same, ap name_of same))
         (λ (changed : (a ≡ place) × (y ≡ f was.0)). (was.0, was.1, ap number_of changed.1 ∙ keeps_number was.0, ap name_of changed.1 ∙ keeps_name was.0))
         was.2
+
+-- where an item of a list without one stood before
+abbrev pub skipped : ℕ → ℕ → ℕ
+skipped zero a = suc a
+skipped (suc place) zero = zero
+skipped (suc place) (suc a) = suc (skipped place a)
+
+-- the items keep their order
+skipped_order : (place a b : ℕ) → a < b → skipped place a < skipped place b
+skipped_order zero a b lt = omega arith
+skipped_order (suc place) zero zero lt = absurd (omega arith)
+skipped_order (suc place) zero (suc b) lt = omega arith
+skipped_order (suc place) (suc a) zero lt = absurd (omega arith)
+skipped_order (suc place) (suc a) (suc b) lt = let rest = skipped_order place a b (omega arith) in omega arith
+
+pub stood_before_removal : {X : Type 0} (place : ℕ) (xs : List X) (a : ℕ) (y : X) → StandsAt (remove xs place) a y → StandsAt xs (skipped place a) y
+stood_before_removal zero [] a y stands = no_item y stands
+stood_before_removal (suc place) [] a y stands = no_item y stands
+stood_before_removal zero (x ∷ xs) a y stands = stands
+stood_before_removal (suc place) (x ∷ xs) zero y stands = stands
+stood_before_removal (suc place) (x ∷ xs) (suc a) y stands = stood_before_removal place xs a y stands
+
+-- no item comes by a removal
+pub length_removed : {X : Type 0} (xs : List X) (place : ℕ) → length (remove xs place) ≤ length xs
+length_removed xs place = simp (length-append, length-take, length-drop) (omega arith)
+
+-- the items that are left keep their numbers, and the next number stays
+pub numbered_less : {X : Type 0} (number_of : X → ℕ) (name_of : X → List ℕ) (next : ℕ) (place : ℕ) (xs : List X) → AreNumbered number_of name_of next xs → AreNumbered number_of name_of next (remove xs place)
+numbered_less number_of name_of next place xs numbered = record {
+  next_from_one = numbered.next_from_one;
+  from_one = λ a x stands. numbered.from_one (skipped place a) x (stood_before_removal place xs a x stands);
+  below_next = λ a x stands. numbered.below_next (skipped place a) x (stood_before_removal place xs a x stands);
+  ascending = λ a b x y lt first second. numbered.ascending (skipped place a) (skipped place b) x y (skipped_order place a b lt) (stood_before_removal place xs a x first) (stood_before_removal place xs b y second);
+  one_name = λ a b x y lt first second. numbered.one_name (skipped place a) (skipped place b) x y (skipped_order place a b lt) (stood_before_removal place xs a x first) (stood_before_removal place xs b y second);
+}

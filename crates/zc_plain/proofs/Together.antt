@@ -18,7 +18,7 @@ pub block_by_place : (blocks : List PlainBlock) (k : ℕ) → block_at k blocks 
 block_by_place blocks k = unwrap_or-slice_get blocks k Hole
 
 -- blocks with holes behind them have the blocks that they had
-grown_block : (count : ℕ) (blocks : List PlainBlock) (k : ℕ) → get_or (grown count blocks) k Hole ≡ block_at k blocks
+pub grown_block : (count : ℕ) (blocks : List PlainBlock) (k : ℕ) → get_or (grown count blocks) k Hole ≡ block_at k blocks
 unfolding grown
 grown_block count blocks k =
     ⊎_elim

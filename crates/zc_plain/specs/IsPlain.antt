@@ -3,8 +3,9 @@ use Rattle.std.specs.Prelude.{◌≡◌, ◌≢◌, ℕ, ◌+◌, ◌^◌, ◌<�
 use Rattle.zc_plain.specs.declared.plain_pool.PlainFile.{PlainFile}
 use Rattle.zc_plain.specs.declared.plain_pool.PlainDataset.{PlainDataset}
 use Rattle.zc_plain.specs.declared.plain_pool.PlainPool.{PlainPool}
+use Rattle.zc_plain.specs.declared.tally.Tally.{Tally}
 use Rattle.zc_plain.specs.PlainPool.{blocks_of_size, bytes_of_block, block_at, byte_of}
-use Rattle.zc_plain.specs.Answer.{most_datasets, most_files}
+use Rattle.zc_plain.specs.Answer.{most_datasets, most_files, most_bytes}
 use Rattle.zc_plain.specs.History.{PlainState}
 
 -- the item stands at the place of the list
@@ -25,17 +26,18 @@ pub record IsPlainFile (file : PlainFile) : Type 0 where
   pub whole : (k : ℕ) → length (bytes_of_block (block_at k file.blocks)) ≡ 4096
   pub zero_past : (i : ℕ) → file.size ≤ i → byte_of file i ≡ 0
 
--- a dataset of a pool in which it may have so many files
-pub record IsPlainDataset (most : ℕ) (dataset : PlainDataset) : Type 0 where
+-- a dataset of a pool in which it may have so many files, and each of them so many bytes
+pub record IsPlainDataset (most most_size : ℕ) (dataset : PlainDataset) : Type 0 where
   pub numbered : AreNumbered (λ (file : PlainFile). file.id) (λ (file : PlainFile). file.name) dataset.next_file dataset.files
   pub few : length dataset.files ≤ most
   pub files : (place : ℕ) (file : PlainFile) → StandsAt dataset.files place file → IsPlainFile file
+  pub sizes : (place : ℕ) (file : PlainFile) → StandsAt dataset.files place file → file.size ≤ most_size
 
 -- a pool
 pub record IsPlain (pool : PlainPool) : Type 0 where
   pub numbered : AreNumbered (λ (dataset : PlainDataset). dataset.id) (λ (dataset : PlainDataset). dataset.name) pool.next_dataset pool.datasets
   pub few : length pool.datasets ≤ most_datasets
-  pub datasets : (place : ℕ) (dataset : PlainDataset) → StandsAt pool.datasets place dataset → IsPlainDataset (most_files pool) dataset
+  pub datasets : (place : ℕ) (dataset : PlainDataset) → StandsAt pool.datasets place dataset → IsPlainDataset (most_files pool) (most_bytes pool) dataset
 
 -- the next numbers are at most so much
 pub record AreNextUpTo (most : ℕ) (pool : PlainPool) : Type 0 where
@@ -46,7 +48,13 @@ pub record AreNextUpTo (most : ℕ) (pool : PlainPool) : Type 0 where
 abbrev pub most_number : ℕ → ℕ
 most_number entries = 2 ^ 62 + entries
 
+-- what a charge is counted from stays small: no command makes a block where the charge would exceed the data places
+pub record IsTally (tally : Tally) : Type 0 where
+  pub held : tally.held ≤ 2 ^ 62
+  pub few : length tally.made ≤ 131072
+
 -- a state that a history leads to
 pub record IsState (state : PlainState) : Type 0 where
   pub plain : IsPlain state.pool
+  pub tally : IsTally state.tally
   pub counted : AreNextUpTo (most_number state.entries) state.pool

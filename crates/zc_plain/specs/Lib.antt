@@ -1,6 +1,10 @@
 pub mod Answer
+pub mod Charge
 pub mod History
 pub mod IsPlain
+pub mod Legal
 pub mod PlainPool
+pub mod Promises
 pub mod Putting
+pub mod Truncated
 pub mod Written

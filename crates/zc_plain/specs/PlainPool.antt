@@ -1,5 +1,5 @@
 -- What a plain pool holds: the bytes of its files, and its datasets and files by their places.
-use Rattle.std.specs.Prelude.{ℕ, ◌+◌, ◌/◌, ◌%◌, List, [], ◌∷◌, ◌++◌, take, drop, replicate, slice_get, slice_index, unwrap_or}
+use Rattle.std.specs.Prelude.{ℕ, ◌+◌, ◌/◌, ◌%◌, Bool, true, false, not, List, [], ◌∷◌, ◌++◌, take, drop, replicate, slice_get, slice_index, unwrap_or, remove, sum_by, count_by}
 use Rattle.zc_num.specs.Words.{each, change_at}
 use Rattle.zc_num.specs.declared.limits.Limits.{Limits}
 use Rattle.zc_plain.specs.declared.plain_pool.PlainBlock.{PlainBlock}
@@ -25,6 +25,19 @@ bytes_of_block (Made entry index bytes) = bytes
 -- the block with the index; behind the last there are holes
 abbrev pub block_at : ℕ → List PlainBlock → PlainBlock
 block_at index blocks = unwrap_or (slice_get blocks index) Hole
+
+-- the block has bytes that a command made
+abbrev pub is_made : PlainBlock → Bool
+is_made Hole = false
+is_made (Made entry index bytes) = true
+
+-- all bytes of the block are 0, and no command made them
+abbrev pub is_hole : PlainBlock → Bool
+is_hole block = not (is_made block)
+
+-- how many of the blocks are no holes
+unfoldable pub made_count : List PlainBlock → ℕ
+made_count blocks = count_by is_made blocks
 
 -- byte i of a file is byte i % 4096 of its block i / 4096
 unfoldable pub byte_of : PlainFile → ℕ → ℕ
@@ -65,6 +78,18 @@ with_new_dataset name pool = record pool { next_dataset = pool.next_dataset + 1;
 -- the dataset with a new file of the name, which takes the next number
 abbrev pub with_new_file : List ℕ → PlainDataset → PlainDataset
 with_new_file name dataset = record dataset { next_file = dataset.next_file + 1; files = dataset.files ++ new_file dataset.next_file name ∷ [] }
+
+-- the pool without the dataset at the place; the next number stays
+abbrev pub without_dataset : ℕ → PlainPool → PlainPool
+without_dataset place pool = record pool { datasets = remove pool.datasets place }
+
+-- the dataset without the file at the place; the next number stays
+abbrev pub without_file : ℕ → PlainDataset → PlainDataset
+without_file place dataset = record dataset { files = remove dataset.files place }
+
+-- how many pointers to blocks the files of a dataset have: one for each block that is no hole
+unfoldable pub pointers_in : PlainDataset → ℕ
+pointers_in dataset = sum_by (λ (file : PlainFile). made_count file.blocks) dataset.files
 
 -- the pool with the dataset at the place changed
 abbrev pub in_dataset : ℕ → (PlainDataset → PlainDataset) → PlainPool → PlainPool

@@ -10,6 +10,10 @@ use Rattle.zc_plain.specs.Written.{made_block}
 unfoldable pub grown : ℕ → List PlainBlock → List PlainBlock
 grown count blocks = blocks ++ replicate (count - length blocks) Hole
 
+-- so many blocks: the last ones go, or holes stand behind them
+unfoldable pub resized : ℕ → List PlainBlock → List PlainBlock
+resized count blocks = take count (grown count blocks)
+
 -- the blocks with others in the place of those from `first` on
 unfoldable pub replaced : ℕ → List PlainBlock → List PlainBlock → List PlainBlock
 replaced first others blocks = take first blocks ++ (others ++ drop (first + length others) blocks)

@@ -12,13 +12,18 @@ mod answering;
 mod commands;
 mod entry;
 mod finding;
+mod held;
 mod plain;
 mod plain_pool;
 mod reading;
+mod room;
+mod tally;
 #[cfg(test)]
 mod tests;
+mod truncating;
 mod writing;
 
 pub use entry::Entry;
 pub use plain::Plain;
 pub use plain_pool::{PlainBlock, PlainDataset, PlainFile, PlainPool};
+pub use tally::{MadeBlock, Tally};

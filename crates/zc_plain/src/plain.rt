@@ -1,4 +1,4 @@
-ghost use Rattle.std.specs.Prelude.{◌≡◌, ◌^◌, ◌<◌, IfSome};
+ghost use Rattle.std.specs.Prelude.{◌≡◌, ◌^◌, ◌<◌, ◌≤◌, IfOk, IfSome};
 ghost use Rattle.std.specs.Option.{option_copied};
 ghost use Rattle.zc_plain.specs.PlainPool.{new_pool};
 ghost use Rattle.zc_plain.specs.IsPlain.{IsPlain, IsPlainFile, AreNextUpTo};
@@ -6,6 +6,8 @@ ghost use Rattle.zc_plain.specs.Answer.{file_of};
 
 use crate::answering::entry_reply;
 use crate::finding::{file_at, path_of};
+use crate::held::held_by;
+use crate::tally::Tally;
 use crate::{Entry, PlainFile, PlainPool};
 use std::alloc::Global;
 use std::marker::Model;
@@ -17,6 +19,7 @@ use zc_num::{Limits, Listed, Name, NoMemory};
 pub struct Plain {
     alloc: Global,
     pool: PlainPool,
+    tally: Tally,
     // The number of the last entry.
     entries: u64,
 }
@@ -27,17 +30,18 @@ impl Model for Plain {
 
     ghost Value = { PlainState };
 
-    ghost view = { λ plain. record { pool = plain.pool; entries = plain.entries } };
+    ghost view = { λ plain. record { pool = plain.pool; tally = plain.tally; entries = plain.entries } };
 
-    ghost invariant = { λ plain. IsState (record { pool = plain.pool; entries = plain.entries }) };
+    ghost invariant = { λ plain. IsState (record { pool = plain.pool; tally = plain.tally; entries = plain.entries }) };
 }
 
 impl Plain {
     ghost use Rattle.zc_plain.specs.History.{begun, Steps, MeetsConditions};
     ghost use Rattle.zc_plain.specs.IsPlain.{IsState};
+    ghost use Rattle.zc_plain.specs.Promises.{Promises};
 
     /// An empty pool before any entry.
-    #[tactic(auto, using(crate::proofs::HistoryLaws::state_at_start))]
+    #[tactic(auto, using(crate::proofs::HistoryLaws::state_at_start, crate::proofs::HistoryLaws::held_at_start))]
     pub fn start(alloc: Global, limits: Limits) -> Self
         ensures { result ≡ begun (new_pool limits) }
     {
@@ -49,21 +53,35 @@ impl Plain {
         Plain {
             alloc,
             pool,
+            tally: Tally {
+                sealed: Listed::new(alloc),
+                held: 0,
+                made: Listed::new(alloc),
+            },
             entries: 0,
         }
     }
 
     /// A pool that is there before any entry, as it was found.
-    pub fn found(alloc: Global, pool: PlainPool) -> Self
+    ///
+    /// # Errors
+    /// Want of memory.
+    pub fn found(alloc: Global, pool: PlainPool) -> Result<Self, NoMemory>
         requires plain { IsPlain pool }
         requires numbers { AreNextUpTo (2 ^ 62) pool }
-        ensures { result ≡ begun pool }
+        ensures { IfOk result (λ plain. plain ≡ begun pool) }
     {
-        Plain {
+        let held = held_by(alloc, &pool)?;
+        Ok(Plain {
             alloc,
             pool,
+            tally: Tally {
+                sealed: Listed::new(alloc),
+                held,
+                made: Listed::new(alloc),
+            },
             entries: 0,
-        }
+        })
     }
 
     /// How many entries there were. The next one has the number behind theirs.
@@ -90,9 +108,16 @@ impl Plain {
     pub fn apply(&mut self, entry: &Entry) -> Result<Option<Reply>, NoMemory>
         requires conditions { MeetsConditions entry.now }
         requires few { self.old.entries < 2 ^ 63 }
-        ensures { Steps self.old self.new result entry.now }
+        ensures steps { Steps self.old self.new result entry.now }
+        ensures promises { IfOk result (λ reply. Promises self.old self.new reply entry.now) }
     {
-        let reply = entry_reply(self.alloc, &mut self.pool, self.entries + 1, entry)?;
+        let reply = entry_reply(
+            self.alloc,
+            &mut self.pool,
+            &mut self.tally,
+            self.entries + 1,
+            entry,
+        )?;
         self.entries += 1;
         Ok(reply)
     }

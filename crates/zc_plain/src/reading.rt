@@ -1,7 +1,7 @@
 // The bytes of blocks and files.
 ghost use Rattle.std.specs.Prelude.{◌≡◌, ◌+◌, ◌-◌, ◌*◌, ◌^◌, ◌<◌, ◌≤◌, min, length, IfOk};
 ghost use Rattle.zc_num.specs.Words.{each};
-ghost use Rattle.zc_plain.specs.PlainPool.{zeros, bytes_of_block, block_at, byte_of, bytes_from};
+ghost use Rattle.zc_plain.specs.PlainPool.{zeros, bytes_of_block, block_at, is_made, made_count, byte_of, bytes_from};
 
 use crate::{PlainBlock, PlainFile};
 use std::alloc::Global;
@@ -24,6 +24,27 @@ pub fn block_bytes(blocks: &Listed<PlainBlock>, index: u64) -> [u8; BLOCK]
         Some(PlainBlock::Made { bytes, .. }) => *bytes.block(),
         _ => zeros(),
     }
+}
+
+// Whether the block with the index is no hole.
+pub fn is_made(blocks: &Listed<PlainBlock>, index: u64) -> bool
+    ensures { result ≡ is_made (block_at index blocks.now) }
+{
+    matches!(blocks.get(index as usize), Some(PlainBlock::Made { .. }))
+}
+
+// How many of the blocks are no holes.
+#[tactic(auto, unfolding(crate::specs::PlainPool::made_count), using(crate::proofs::Counted::counted_block))]
+pub fn made_count(blocks: &Listed<PlainBlock>) -> u64
+    ensures { result ≡ made_count blocks.now }
+{
+    let mut count = 0;
+    for k in 0..blocks.len() {
+        if is_made(blocks, k as u64) {
+            count += 1;
+        }
+    }
+    count
 }
 
 // Byte `at` of the file.

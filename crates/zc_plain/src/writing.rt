@@ -4,7 +4,7 @@
 // before. The other blocks stay where they are, and none is copied.
 ghost use Rattle.std.specs.Prelude.{◌≡◌, ◌+◌, ◌*◌, ◌^◌, ◌<◌, ◌≤◌, length, IfOk, OnOk, OnErr};
 ghost use Rattle.zc_plain.specs.Written.{made_block, written};
-ghost use Rattle.zc_plain.specs.Putting.{grown, replaced, made_blocks};
+ghost use Rattle.zc_plain.specs.Putting.{grown, resized, replaced, made_blocks};
 ghost use Rattle.zc_plain.specs.IsPlain.{IsPlainFile};
 
 use crate::reading::block_bytes;
@@ -119,6 +119,27 @@ fn put_in_vec(
     let end = first + others.len();
     grow(blocks, end)?;
     blocks[first..end].swap_with_slice(&mut others);
+    Ok(())
+}
+
+/// Gives the list so many blocks: the last ones go, or holes stand behind them.
+///
+/// # Errors
+/// Want of memory; the blocks are as before.
+#[tactic(auto, unfolding(crate::specs::Putting::resized))]
+pub fn resize_blocks(
+    alloc: Global,
+    blocks: &mut Listed<PlainBlock>,
+    count: usize,
+) -> Result<(), NoMemory>
+    ensures ok { OnOk result (blocks.new ≡ resized count blocks.old) }
+    ensures err { OnErr result (blocks.new ≡ blocks.old) }
+{
+    let mut all = mem::replace(blocks, Listed::new(alloc)).into_vec();
+    let grown = grow(&mut all, count);
+    *blocks = Listed::from_vec(all);
+    grown?;
+    blocks.truncate(count);
     Ok(())
 }
 

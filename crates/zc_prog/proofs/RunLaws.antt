@@ -6,8 +6,10 @@ use Rattle.zc_tape.specs.Cause.{Rose}
 use Rattle.zc_io.specs.Stock.{Stock, Gave}
 use Rattle.zc_io.specs.Stream.{Stream, Keeps}
 use Rattle.zc_script.specs.declared.act.Line.{Line}
+use Rattle.zc_script.specs.declared.scope.Scope.TheVariants.{Small}
 use Rattle.zc_script.specs.Lines.{texts_of, first_bad}
 use Rattle.zc_script.specs.Spelling.{IsActOf}
+use Rattle.zc_script.proofs.SmallLaws.{small_bad_session}
 use Rattle.zc_root.proofs.RootLaws.{one_root}
 use Rattle.zc_damage.specs.declared.damage.Damage.{Damage}
 use Rattle.zc_state.specs.State.{State, StandsFor, IsFresh}
@@ -34,7 +36,7 @@ pub none_survives : (old new : Outside) (name : List ℕ) → new.stock ≡ old.
 none_survives old new name same told = inl (ap (λ (s : Stock). s.gives) same)
 
 -- what the session says of the set that was handed back, with the script that was read
-pub survives_script : (old new : Outside) (name script : List ℕ) (lines : List Line) → WasRead old.left new.left script → first_bad (name ∷ []) (texts_of script) ≡ None → lines ≡ lines_in name script
+pub survives_script : (old new : Outside) (name script : List ℕ) (lines : List Line) → WasRead old.left new.left script → first_bad Small (name ∷ []) (texts_of script) ≡ None → lines ≡ lines_in name script
     → HoldsOfGiven (SurvivesRun (run_of lines)) old.stock new.stock name → SurvivesPlay old new name
 survives_script old new name script lines read good same holds told = ⊎_elim
     (λ (none : new.stock.gives ≡ old.stock.gives). inl none)
@@ -44,11 +46,15 @@ survives_script old new name script lines read good same holds told = ⊎_elim
 
 -- ---- what a script came to
 
+-- the first bad line stands in session 0
+pub first_in_session_0 : (pools texts : List (List ℕ)) (session line : ℕ) → first_bad Small pools texts ≡ Some (session, line) → first_bad Small pools texts ≡ Some (0, line)
+first_in_session_0 pools texts session line is = subst (λ (s : ℕ). first_bad Small pools texts ≡ Some (s, line)) (small_bad_session pools texts session line is) is
+
 -- the lines of a script are acts
-pub acts_are : (name : List ℕ) (lines : List Line) → All (λ (line : Line). IsActOf (name ∷ []) line.act) lines → AreActs lines
+pub acts_are : (name : List ℕ) (lines : List Line) → All (λ (line : Line). IsActOf Small (name ∷ []) line.act) lines → AreActs lines
 acts_are name lines acts = (name ∷ [], acts)
 
-module _ (old new : Outside) (name script : List ℕ) (lines : List Line) (read : WasRead old.left new.left script) (good : first_bad (name ∷ []) (texts_of script) ≡ None) (same : lines ≡ lines_in name script) where
+module _ (old new : Outside) (name script : List ℕ) (lines : List Line) (read : WasRead old.left new.left script) (good : first_bad Small (name ∷ []) (texts_of script) ≡ None) (same : lines ≡ lines_in name script) where
   -- the script was played, and this came of it
   was_played : (ended : Ended) → IsPooled old.stock new.stock old.shelf_faults new.shelf_faults name lines ended → WasPlayed old new name script ended
   was_played ended is = record { read = read; good = good; pooled = subst (λ (l : List Line). IsPooled old.stock new.stock old.shelf_faults new.shelf_faults name l ended) same is }
@@ -118,9 +124,9 @@ module _ (old new : Outside) (name : List ℕ) (write_faults write_faults_after 
   played_code ReadFault cause = absurd (orderly.no_read_fault cause.0)
   played_code TooLarge cause = absurd (omega (arith, cause.0 orderly.source_told, orderly.few_bytes))
   played_code (BadLine line) (script, bad) =
-      absurd (none_some (sym (subst (λ (bytes : List ℕ). first_bad (name ∷ []) (texts_of bytes) ≡ None) (all_read old.left new.left script orderly.source_told bad.read) orderly.good) ∙ bad.first))
+      absurd (none_some (sym (subst (λ (bytes : List ℕ). first_bad Small (name ∷ []) (texts_of bytes) ≡ None) (all_read old.left new.left script orderly.source_told bad.read) orderly.good) ∙ bad.first))
     where
-      none_some : {n : ℕ} → ◌≡◌ {A = Option ℕ} None (Some n) → ⊥
+      none_some : {bad : ℕ × ℕ} → ◌≡◌ {A = Option (ℕ × ℕ)} None (Some bad) → ⊥
       none_some e = cc
   played_code Missing (script, was) = absurd (true_false (sym orderly.there ∙ was.pooled.0 orderly.shelf_told)) where
     true_false : true ≡ false → ⊥

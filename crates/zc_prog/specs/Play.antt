@@ -5,6 +5,7 @@ use Rattle.zc_tape.specs.Tape.{Shape}
 use Rattle.zc_io.specs.Stock.{Stock, Gave}
 use Rattle.zc_io.specs.Stream.{Stream, Keeps}
 use Rattle.zc_script.specs.declared.act.Line.{Line}
+use Rattle.zc_script.specs.declared.scope.Scope.TheVariants.{Small}
 use Rattle.zc_script.specs.Lines.{texts_of, first_bad, lines_of}
 use Rattle.zc_state.specs.State.{State, StandsFor, IsFresh}
 use Rattle.zc_pool.specs.Imported.{size_hit}
@@ -28,18 +29,18 @@ pub record Outside : Type 0 where
 
 -- the lines of a script that say something, of which each names this pool
 abbrev pub lines_in : List ℕ → List ℕ → List Line
-lines_in name script = lines_of (name ∷ []) (texts_of script)
+lines_in name script = lines_of Small (name ∷ []) (texts_of script)
 
 -- the script was read to its end, no line of it is bad, and this came of its lines on the pool
 pub record WasPlayed (old new : Outside) (name script : List ℕ) (ended : Ended) : Type 0 where
   pub read : WasRead old.left new.left script
-  pub good : first_bad (name ∷ []) (texts_of script) ≡ None
+  pub good : first_bad Small (name ∷ []) (texts_of script) ≡ None
   pub pooled : IsPooled old.stock new.stock old.shelf_faults new.shelf_faults name (lines_in name script) ended
 
 -- the script was read to its end, this line is its first bad one, and the shelf is as it was
 pub record WasBad (old new : Outside) (name script : List ℕ) (line : ℕ) : Type 0 where
   pub read : WasRead old.left new.left script
-  pub first : first_bad (name ∷ []) (texts_of script) ≡ Some line
+  pub first : first_bad Small (name ∷ []) (texts_of script) ≡ Some (0, line)
   pub stock : new.stock ≡ old.stock
 
 -- why a run of `play` came to what it came to
@@ -91,7 +92,7 @@ IsRun words = IsRunOf (task_of words)
 pub record SurvivesScript (old new : Outside) (name : List ℕ) (gave : Gave) : Type 0 where
   pub script : List ℕ
   pub read : WasRead old.left new.left script
-  pub good : first_bad (name ∷ []) (texts_of script) ≡ None
+  pub good : first_bad Small (name ∷ []) (texts_of script) ≡ None
   pub survives : SurvivesRun (run_of (lines_in name script)) gave
 
 abbrev pub SurvivesPlay : Outside → Outside → List ℕ → Type 0
@@ -114,7 +115,7 @@ WasSound gave = IsTrue gave.tape.told × ((s : State) × StandsFor gave.shape ga
 pub record IsOrderly (old new : Outside) (name : List ℕ) (write_faults write_faults_after : ℕ) : Type 0 where
   pub source_told : IsTrue old.left.told
   pub few_bytes : length old.left.bytes ≤ most_bytes
-  pub good : first_bad (name ∷ []) (texts_of old.left.bytes) ≡ None
+  pub good : first_bad Small (name ∷ []) (texts_of old.left.bytes) ≡ None
   pub shelf_told : IsTrue old.stock.told
   pub there : old.stock.here name ≡ true
   pub sound : (gave : Gave) → new.stock.gives ≡ old.stock.gives ++ gave ∷ [] → WasSound gave

@@ -1,6 +1,7 @@
 // The top call: a run of the program over any source, sink and shelf.
 ghost use Rattle.std.specs.Prelude.{◌≡◌, ◌≤◌, ◌⊎◌, ◌∷◌, map, string_bytes, Some, None, [], length, All, IfOk, IfErr, OnOk};
 ghost use Rattle.zc_io.specs.Stream.{Keeps};
+ghost use Rattle.zc_script.specs.declared.scope.Scope.TheVariants.{Small};
 ghost use Rattle.zc_script.specs.Spelling.{IsActOf};
 ghost use Rattle.zc_script.specs.Lines.{texts_of, first_bad, IsScriptFault};
 ghost use Rattle.zc_prog.specs.Words.{task_of, pool_of, HasLimits};
@@ -29,21 +30,21 @@ pub struct Status {
 // The lines of a script of which each names the pool.
 fn lines_of(alloc: Global, name: &Name, script: &[u8]) -> Result<Listed<Line>, ScriptFault>
     ensures ok { IfOk result (λ lines. lines ≡ lines_in name.now script.now) }
-    ensures acts { IfOk result (λ lines. All (λ line. IsActOf (name.now ∷ []) line.act) lines) }
+    ensures acts { IfOk result (λ lines. All (λ line. IsActOf Small (name.now ∷ []) line.act) lines) }
     ensures few { IfOk result (λ lines. length lines ≤ length script.now) }
-    ensures good { OnOk result (first_bad (name.now ∷ []) (texts_of script.now) ≡ None) }
-    ensures bad { IfErr result (λ fault. IsScriptFault fault (first_bad (name.now ∷ []) (texts_of script.now))) }
+    ensures good { OnOk result (first_bad Small (name.now ∷ []) (texts_of script.now) ≡ None) }
+    ensures bad { IfErr result (λ fault. IsScriptFault fault (first_bad Small (name.now ∷ []) (texts_of script.now))) }
 {
     let pool = match name.clone() {
         Ok(pool) => pool,
         Err(_) => return Err(ScriptFault::NoMemory),
     };
-    let read = zc_script::read_script(alloc, script, &[pool])?;
+    let read = zc_script::read_small_script(alloc, script, &[pool])?;
     Ok(read.lines)
 }
 
 // Reads a script and plays it on the pool of a name.
-#[tactic(auto, using(crate::proofs::RunLaws::acts_are, crate::proofs::RunLaws::none_survives, crate::proofs::RunLaws::survives_script, crate::proofs::RunLaws::played_cause))]
+#[tactic(auto, using(crate::proofs::RunLaws::acts_are, crate::proofs::RunLaws::first_in_session_0, crate::proofs::RunLaws::none_survives, crate::proofs::RunLaws::survives_script, crate::proofs::RunLaws::played_cause))]
 fn play_script<S: Source, H: Shelf>(
     alloc: Global,
     name: &Name,

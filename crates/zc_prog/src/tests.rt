@@ -219,8 +219,8 @@ fn left_at(
     Ok(disks.leave(moment, &[keep; 4])?)
 }
 
-// Whether a line tells of another digest at place 69, with two digests of 64 digits.
-fn tells_two_digests(line: &[u8]) -> bool {
+// Whether a line begins as one that tells of another digest at place 69, and is as long as one with two digests of 64 digits.
+fn is_as_long_as_two_digests(line: &[u8]) -> bool {
     line.len() == 161 && line.starts_with(b"damaged digest 0:69 kept ")
 }
 
@@ -250,7 +250,7 @@ fn finds_the_root_behind_a_broken_gate_and_tells_a_damage(rt: HostRuntime) -> Re
     let mut changed = with_byte(&rt, alloc, &shelf, 69, 8, 1)?;
     let damaged = play_tank(alloc, b"", &mut changed)?;
     assert_eq!(rt; damaged.code, 8);
-    assert!(rt; tells_two_digests(&damaged.text), "both digests are told");
+    assert!(rt; is_as_long_as_two_digests(&damaged.text));
     Ok(())
 }
 
@@ -328,5 +328,97 @@ fn answers_each_failing_call_of_source_sink_and_shelf(rt: HostRuntime) -> Result
     expect(&rt, &given, 6, FIRST_TEXT);
     let missing = play_tank(alloc, b"", &mut shelf)?;
     expect(&rt, &missing, 11, b"missing tank\n");
+    Ok(())
+}
+
+// A shelf with this set under the name.
+fn shelf_with(
+    rt: &impl Abort,
+    alloc: Global,
+    name: &Name,
+    disks: MemoryDisks,
+) -> Result<MemoryShelf, Fail> {
+    let mut shelf = MemoryShelf::new(alloc, &[])?;
+    assert!(rt; disks.calls() == 0);
+    assert!(rt; shelf.put(name, disks).is_ok());
+    Ok(shelf)
+}
+
+// The calls of the creation: 4 reads, then 73 writes and syncs, of which the last but one opens the gate.
+#[test]
+fn tells_each_failing_call_of_disks_that_get_a_pool(rt: HostRuntime) -> Result<(), Fail> {
+    let alloc = rt.alloc();
+    let name = tank(alloc)?;
+    for failing in 1..78u64 {
+        let disks = MemoryDisks::new(alloc, 1, 1024, &[failing])?;
+        let mut shelf = shelf_with(&rt, alloc, &name, disks)?;
+        let made = create_tank(alloc, "1024", &mut shelf)?;
+        expect(&rt, &made, 6, b"disk fault tank\n");
+
+        // Before the gate is open there is no pool, and one can be made.
+        let again = create_tank(alloc, "1024", &mut shelf)?;
+        if failing < 77 {
+            expect(&rt, &again, 0, b"");
+        } else {
+            expect(&rt, &again, 9, b"pool exists tank\n");
+        }
+        let found = play_tank(alloc, b"", &mut shelf)?;
+        expect(&rt, &found, 0, b"end tank group 3\n");
+    }
+    Ok(())
+}
+
+// Copies the bytes of a place.
+fn copy_place(rt: &impl Abort, from: &mut MemoryDisks, to: &mut MemoryDisks, place: u32) {
+    assert!(rt; from.devices() == 1 && from.places() == 1024 && place < 1024);
+    assert!(rt; to.devices() == 1 && to.places() == 1024 && to.calls() == 0);
+    let mut block = [0u8; 4096];
+    let _ = from.read(0, place, &mut block);
+    to.put(0, place, &block);
+}
+
+// A set with the same bytes, of whose calls the one with this number fails.
+fn with_failing(
+    rt: &impl Abort,
+    alloc: Global,
+    disks: &mut MemoryDisks,
+    failing: u64,
+) -> Result<MemoryDisks, Fail> {
+    let mut copy = MemoryDisks::new(alloc, 1, 1024, &[failing])?;
+    for place in 0..1024u32 {
+        copy_place(rt, disks, &mut copy, place);
+    }
+    Ok(copy)
+}
+
+// The calls of the run: 4 reads, then those of `keeps_a_prefix_at_every_moment`.
+#[test]
+fn tells_each_failing_call_of_disks_that_are_played_on(rt: HostRuntime) -> Result<(), Fail> {
+    let alloc = rt.alloc();
+    let name = tank(alloc)?;
+    let shelf = fresh(&rt, alloc)?;
+    let Some(disks) = shelf.disk(&name) else {
+        panic!(rt; "the set lies there");
+    };
+    let mut made = left_at(&rt, alloc, disks, disks.calls(), Keep::New)?;
+    for failing in 1..26u64 {
+        let disks = with_failing(&rt, alloc, &mut made, failing)?;
+        let mut shelf = shelf_with(&rt, alloc, &name, disks)?;
+        let first = play_tank(alloc, FIRST, &mut shelf)?;
+        expect(&rt, &first, 6, b"disk fault tank\n");
+
+        // The set that was given back holds what was committed, and is played on.
+        let later = play_tank(alloc, b"read tank/d/f 0 9\n", &mut shelf)?;
+        let text: &[u8] = if failing < 10 {
+            b"ENOENT dataset\nend tank group 3\n"
+        } else if failing < 18 {
+            b"ENOENT dataset\nend tank group 4\n"
+        } else if failing < 25 {
+            b"data 68656c6c6f\nend tank group 5\n"
+        } else {
+            b"data 68656c6c6f\nend tank group 6\n"
+        };
+        expect(&rt, &later, 0, text);
+    }
     Ok(())
 }

@@ -1,3 +1,4 @@
+pub mod ActLaws
 pub mod HexWords
 pub mod LineBytes
 pub mod LineLaws
@@ -5,4 +6,5 @@ pub mod Numerals
 pub mod PieceLaws
 pub mod PoolLaws
 pub mod ReadLaws
+pub mod SmallLaws
 pub mod SpellingLaws

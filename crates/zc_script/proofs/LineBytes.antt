@@ -1,12 +1,9 @@
 -- Which bytes stand in the words of a line.
-use Rattle.std.proofs.Common.{◌≡◌, ℕ, ◌+◌, ◌<◌, ◌≤◌, Bool, true, false, not, ◌==◌, ◌&&◌, nat_le, List, [], ◌∷◌, ◌++◌, length, Some, None, IsTrue, refl, sym, ◌∙◌, ap, ⊎_elim, arith}
-use Rattle.std.specs.List.{list_all, AllPass}
-use Rattle.std.specs.Str.{all_ascii_digits}
+use Rattle.std.proofs.Common.{◌≡◌, ℕ, Bool, true, false, not, ◌==◌, List, [], ◌∷◌, ◌++◌, refl, sym, ◌∙◌, ⊎_elim}
+use Rattle.std.specs.List.{list_all}
 use Rattle.std.proofs.lemmas.Bool.{cases_Bool, eqb-true, and_parts, and_from, false≢true}
 use Rattle.std.proofs.lemmas.List.Folds.{list_all-append}
-use Rattle.std.proofs.lemmas.List.Sums.{list_all-from_AllPass}
 use Rattle.zc_num.specs.Words.{lacks}
-use Rattle.zc_command.specs.Names.{is_digit}
 
 -- a byte that passes a test that another fails is not that one
 pub other_byte : (test : ℕ → Bool) (separator byte : ℕ) → test separator ≡ false → test byte ≡ true → not (byte == separator) ≡ true

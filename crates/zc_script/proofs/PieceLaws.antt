@@ -1,12 +1,12 @@
 -- The pieces of a text between separators, `pieces_between separator text`.
-use Rattle.std.proofs.Common.{◌≡◌, ℕ, zero, suc, ◌+◌, ◌<◌, true, false, not, ◌==◌, List, [], ◌∷◌, ◌++◌, length, take, drop, Some, None, IsTrue, refl, ◌∙◌, ap, ⊎_elim, arith}
+use Rattle.std.proofs.Common.{◌≡◌, ℕ, zero, suc, ◌+◌, true, false, not, ◌==◌, List, [], ◌∷◌, ◌++◌, take, drop, Some, None, IsTrue, refl, ◌∙◌, ap, ⊎_elim, arith}
 use Rattle.std.specs.List.{onto_first}
 use Rattle.std.proofs.lemmas.Bool.{cases_Bool, eq-eqb, not-true, and_parts}
-use Rattle.std.proofs.lemmas.List.Splits.{slice_split-cons_yes, slice_split-cons_no, join_with_byte-slice_split}
+use Rattle.std.proofs.lemmas.List.Splits.{slice_split-cons_yes, slice_split-cons_no}
 use Rattle.zc_num.proofs.Found.{found_is_first}
 use Rattle.zc_num.proofs.Pieces.{lacks_from_none}
 use Rattle.zc_num.specs.Words.{found_from, lacks}
-use Rattle.zc_script.specs.Words.{pieces_between, one_of, two_of, three_of}
+use Rattle.zc_script.specs.Words.{pieces_between, one_of, two_of, three_of, four_of}
 
 -- a text that lacks the separator is one piece
 pub pieces_lacking : (separator : ℕ) (text : List ℕ) → IsTrue (lacks separator text) → pieces_between separator text ≡ text ∷ []
@@ -71,7 +71,7 @@ one_of_more separator piece text =
     let tail = pieces_begin separator text in
     rw tail.2
 
--- the lists of which `one_of`, `two_of` and `three_of` give the items
+-- the lists of which `one_of`, `two_of`, `three_of` and `four_of` give the items
 pub one_is : {X : Type 0} (xs : List X) (x : X) → one_of xs ≡ Some x → xs ≡ x ∷ []
 one_is [] x h = cc
 one_is (a ∷ []) x h = cc
@@ -89,3 +89,11 @@ three_is (a ∷ []) items h = cc
 three_is (a ∷ b ∷ []) items h = cc
 three_is (a ∷ b ∷ c ∷ []) items h = let same : (a, b, c) ≡ items = cc in rw (← same)
 three_is (a ∷ b ∷ c ∷ d ∷ rest) items h = cc
+
+pub four_is : {X : Type 0} (xs : List X) (items : X × X × X × X) → four_of xs ≡ Some items → xs ≡ items.0 ∷ items.1 ∷ items.2 ∷ items.3 ∷ []
+four_is [] items h = cc
+four_is (a ∷ []) items h = cc
+four_is (a ∷ b ∷ []) items h = cc
+four_is (a ∷ b ∷ c ∷ []) items h = cc
+four_is (a ∷ b ∷ c ∷ d ∷ []) items h = let same : (a, b, c, d) ≡ items = cc in rw (← same)
+four_is (a ∷ b ∷ c ∷ d ∷ e ∷ rest) items h = cc

@@ -1,13 +1,21 @@
 -- The lines of a script, and the first bad one.
+--
+-- Each definition takes the scope first: a line that the scope doesn't have is as bad as one outside the grammar.
 use Rattle.std.specs.Prelude.{◌≡◌, ℕ, ◌+◌, ◌==◌, ◌&&◌, Bool, true, not, List, [], ◌∷◌, Option, Some, None, is_none, if◌then◌else◌}
 use Rattle.zc_num.specs.Words.{pieces_ended_by}
 use Rattle.zc_script.specs.declared.act.Act.{Act}
+use Rattle.zc_script.specs.declared.act.Said.{Said}
+use Rattle.zc_script.specs.declared.act.Said.TheVariants.{Session, Does}
 use Rattle.zc_script.specs.declared.act.Line.{Line}
+use Rattle.zc_script.specs.declared.scope.Scope.{Scope}
 use Rattle.zc_script.specs.declared.script.LineFault.{LineFault}
 use Rattle.zc_script.specs.declared.script.LineFault.TheVariants as line
 use Rattle.zc_script.specs.declared.script.ScriptFault.{ScriptFault}
 use Rattle.zc_script.specs.declared.script.ScriptFault.TheVariants as script
-use Rattle.zc_script.specs.Forms.{act_of}
+use Rattle.zc_script.specs.Pools.{only_if}
+use Rattle.zc_script.specs.Words.{◌>>=◌}
+use Rattle.zc_script.specs.Forms.{said_of}
+use Rattle.zc_script.specs.Scopes.{has_line}
 
 -- the texts of a script's lines, each ended by byte 10; the last may lack it
 abbrev pub texts_of : List ℕ → List (List ℕ)
@@ -18,53 +26,70 @@ abbrev pub is_ignored : List ℕ → Bool
 is_ignored [] = true
 is_ignored (byte ∷ bytes) = byte == 35
 
--- the line is neither ignored nor in the grammar
-abbrev pub is_bad : List (List ℕ) → List ℕ → Bool
-is_bad pools text = not (is_ignored text) && is_none (act_of pools text)
-
--- the number of the first bad line, the first of all having number n
-abbrev pub bad_from : List (List ℕ) → ℕ → List (List ℕ) → Option ℕ
-bad_from pools n [] = None
-bad_from pools n (text ∷ texts) = if is_bad pools text then Some n else bad_from pools (n + 1) texts
-
--- the number of the first bad line; lines are counted from 1, ignored ones included
-abbrev pub first_bad : List (List ℕ) → List (List ℕ) → Option ℕ
-first_bad pools texts = bad_from pools 1 texts
+-- what a line that isn't ignored says; None for a line outside the grammar or the scope
+unfoldable pub heard : Scope → List (List ℕ) → List ℕ → Option Said
+heard scope pools text = do
+  said ← said_of pools text
+  only_if (has_line scope said) said
 
 -- what the line says, if it isn't ignored
-abbrev pub said : List (List ℕ) → List ℕ → Option Act
-said pools text = if is_ignored text then None else act_of pools text
+abbrev pub said : Scope → List (List ℕ) → List ℕ → Option Said
+said scope pools text = if is_ignored text then None else heard scope pools text
 
--- the line of this number in front of others, where it says something; each line is of session 0
-abbrev pub with_line : ℕ → Option Act → List Line → List Line
-with_line n None lines = lines
-with_line n (Some act) lines = record { number = n; session = 0; act = act } ∷ lines
+-- the line is neither ignored nor in the grammar and the scope
+abbrev pub is_bad : Scope → List (List ℕ) → List ℕ → Bool
+is_bad scope pools text = not (is_ignored text) && is_none (heard scope pools text)
 
--- the lines that say something, in order, the first of all having number n
-abbrev pub lines_from : List (List ℕ) → ℕ → List (List ℕ) → List Line
-lines_from pools n [] = []
-lines_from pools n (text ∷ texts) = with_line n (said pools text) (lines_from pools (n + 1) texts)
+-- the session of the lines behind one that says this and stands in the session
+abbrev pub next_session : ℕ → Option Said → ℕ
+next_session session None = session
+next_session session (Some (Session next)) = next
+next_session session (Some (Does act)) = session
 
--- the lines that say something, in order; lines are counted from 1, ignored ones included
-abbrev pub lines_of : List (List ℕ) → List (List ℕ) → List Line
-lines_of pools texts = lines_from pools 1 texts
+-- the session in which the first bad line stands, and its number; the first line of all stands in `session` and has number n
+abbrev pub bad_from : Scope → List (List ℕ) → ℕ → ℕ → List (List ℕ) → Option (ℕ × ℕ)
+bad_from scope pools session n [] = None
+bad_from scope pools session n (text ∷ texts) =
+    if is_bad scope pools text then Some (session, n)
+    else bad_from scope pools (next_session session (said scope pools text)) (n + 1) texts
+
+-- the session in which the first bad line stands, and its number; lines are counted from 1, ignored ones included
+abbrev pub first_bad : Scope → List (List ℕ) → List (List ℕ) → Option (ℕ × ℕ)
+first_bad scope pools texts = bad_from scope pools 0 1 texts
+
+-- the line of this number and session in front of others, where it says an act
+abbrev pub with_line : ℕ → ℕ → Option Said → List Line → List Line
+with_line session n None lines = lines
+with_line session n (Some (Session next)) lines = lines
+with_line session n (Some (Does act)) lines = record { number = n; session = session; act = act } ∷ lines
+
+-- the lines that say an act, in order; the first of all stands in `session` and has number n
+abbrev pub lines_from : Scope → List (List ℕ) → ℕ → ℕ → List (List ℕ) → List Line
+lines_from scope pools session n [] = []
+lines_from scope pools session n (text ∷ texts) =
+    with_line session n (said scope pools text) (lines_from scope pools (next_session session (said scope pools text)) (n + 1) texts)
+
+-- the lines that say an act, in order; lines are counted from 1, ignored ones included, and before any line says otherwise the session is 0
+abbrev pub lines_of : Scope → List (List ℕ) → List (List ℕ) → List Line
+lines_of scope pools texts = lines_from scope pools 0 1 texts
 
 -- an act in front of others, where there is one
-abbrev pub with_act : Option Act → List Act → List Act
+abbrev pub with_act : Option Said → List Act → List Act
 with_act None acts = acts
-with_act (Some act) acts = act ∷ acts
+with_act (Some (Session next)) acts = acts
+with_act (Some (Does act)) acts = act ∷ acts
 
--- what the lines say, in order
-abbrev pub acts_of : List (List ℕ) → List (List ℕ) → List Act
-acts_of pools [] = []
-acts_of pools (text ∷ texts) = with_act (said pools text) (acts_of pools texts)
+-- what the lines do, in order
+abbrev pub acts_of : Scope → List (List ℕ) → List (List ℕ) → List Act
+acts_of scope pools [] = []
+acts_of scope pools (text ∷ texts) = with_act (said scope pools text) (acts_of scope pools texts)
 
 -- a line is called bad only where it is; want of memory says nothing
 abbrev pub IsLineFault : LineFault → Bool → Type 0
 IsLineFault line.NoMemory bad = Unit {0}
 IsLineFault line.Bad bad = bad ≡ true
 
--- a line is named only where it is the first bad one, in session 0; want of memory says nothing
-abbrev pub IsScriptFault : ScriptFault → Option ℕ → Type 0
+-- a session and a line are named only where they are those of the first bad line; want of memory says nothing
+abbrev pub IsScriptFault : ScriptFault → Option (ℕ × ℕ) → Type 0
 IsScriptFault script.NoMemory first = Unit {0}
-IsScriptFault (script.BadLine session n) first = (session ≡ 0) × (first ≡ Some n)
+IsScriptFault (script.BadLine session n) first = first ≡ Some (session, n)

@@ -4,41 +4,34 @@ ghost use Rattle.std.specs.Option.{option_map};
 ghost use Rattle.zc_script.specs.Words.{dataset_path, file_path};
 
 use crate::pieces::{three_pieces, two_pieces};
-use crate::pools::pool_at;
+use crate::pools::is_pool_name;
 use crate::words::is_name_word;
-use zc_num::Name;
 
-// The pool's index and the dataset's name of `P/D`.
+// The names of the pool and the dataset of `P/D`.
 #[tactic(auto, unfolding(crate::specs::Words::dataset_path))]
-pub fn dataset_path<'a>(pools: &[Name], text: &'a [u8]) -> Option<(u32, &'a [u8])>
-    ensures { option_map (λ path. (path.0, path.1.now)) result ≡ dataset_path pools.now text.now }
+pub fn dataset_path(text: &[u8]) -> Option<(&[u8], &[u8])>
+    ensures { option_map (λ path. (path.0.now, path.1.now)) result ≡ dataset_path text.now }
 {
     let Some((pool, dataset)) = two_pieces(b'/', text) else {
         return None;
     };
-    let Some(at) = pool_at(pools, pool) else {
-        return None;
-    };
-    if is_name_word(dataset) {
-        Some((at, dataset))
+    if is_pool_name(pool) && is_name_word(dataset) {
+        Some((pool, dataset))
     } else {
         None
     }
 }
 
-// The pool's index and the names of the dataset and the file of `P/D/F`.
+// The names of the pool, the dataset and the file of `P/D/F`.
 #[tactic(auto, unfolding(crate::specs::Words::file_path))]
-pub fn file_path<'a>(pools: &[Name], text: &'a [u8]) -> Option<(u32, &'a [u8], &'a [u8])>
-    ensures { option_map (λ path. (path.0, path.1.now, path.2.now)) result ≡ file_path pools.now text.now }
+pub fn file_path(text: &[u8]) -> Option<(&[u8], &[u8], &[u8])>
+    ensures { option_map (λ path. (path.0.now, path.1.now, path.2.now)) result ≡ file_path text.now }
 {
     let Some((pool, dataset, file)) = three_pieces(b'/', text) else {
         return None;
     };
-    let Some(at) = pool_at(pools, pool) else {
-        return None;
-    };
-    if is_name_word(dataset) && is_name_word(file) {
-        Some((at, dataset, file))
+    if is_pool_name(pool) && is_name_word(dataset) && is_name_word(file) {
+        Some((pool, dataset, file))
     } else {
         None
     }

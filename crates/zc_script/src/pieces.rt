@@ -2,7 +2,7 @@
 ghost use Rattle.std.specs.Prelude.{◌≡◌, ◌==◌, ◌<◌, ◌∷◌, [], length, IfSome, MatchOption};
 ghost use Rattle.std.specs.Option.{option_map};
 ghost use Rattle.zc_num.specs.Words.{found_from};
-ghost use Rattle.zc_script.specs.Words.{pieces_between, one_of, two_of, three_of};
+ghost use Rattle.zc_script.specs.Words.{pieces_between, one_of, two_of, three_of, four_of};
 
 // The place of the first separator.
 fn place_of(separator: u8, text: &[u8]) -> Option<usize>
@@ -54,6 +54,19 @@ pub fn three_pieces(separator: u8, text: &[u8]) -> Option<(&[u8], &[u8], &[u8])>
     };
     match two_pieces(separator, rest) {
         Some((second, third)) => Some((first, second, third)),
+        None => None,
+    }
+}
+
+// The pieces of a text that has four.
+pub fn four_pieces(separator: u8, text: &[u8]) -> Option<(&[u8], &[u8], &[u8], &[u8])>
+    ensures { option_map (λ pieces. (pieces.0.now, pieces.1.now, pieces.2.now, pieces.3.now)) result ≡ four_of (pieces_between separator text.now) }
+{
+    let Some((first, rest)) = cut(separator, text) else {
+        return None;
+    };
+    match three_pieces(separator, rest) {
+        Some((second, third, fourth)) => Some((first, second, third, fourth)),
         None => None,
     }
 }

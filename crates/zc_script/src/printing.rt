@@ -1,12 +1,12 @@
 // What is written: lines of a script, and replies.
-ghost use Rattle.std.specs.Prelude.{◌≡◌, ◌++◌, ℕ, Some, List, OnOk, OnErr, codes};
+ghost use Rattle.std.specs.Prelude.{◌≡◌, ◌≤◌, ◌++◌, ℕ, Some, List, OnOk, OnErr, IsTrue, codes};
 ghost use Rattle.std.specs.Fmt.{decimal};
 ghost use Rattle.hex.specs.Hex.{encode_lower};
 ghost use Rattle.zc_command.specs.Texts.{reply_text};
-ghost use Rattle.zc_script.specs.declared.act.Act.TheVariants.{Pool};
-ghost use Rattle.zc_script.specs.Pools.{pool_at};
-ghost use Rattle.zc_script.specs.Forms.{act_of};
-ghost use Rattle.zc_script.specs.Spelling.{HasLine, dataset_text, file_text, command_line};
+ghost use Rattle.zc_script.specs.declared.act.Said.TheVariants.{Session, Does};
+ghost use Rattle.zc_script.specs.Pools.{is_pool_name};
+ghost use Rattle.zc_script.specs.Forms.{act_in, said_of};
+ghost use Rattle.zc_script.specs.Spelling.{HasLine, dataset_text, file_text, command_line, session_line, no_pool_text};
 
 use std::alloc::Global;
 use zc_command::{Command, Reply};
@@ -48,6 +48,14 @@ fn push_file(out: &mut Vec<u8>, pool: &Name, dataset: &Name, file: &Name) -> Res
     out.extend_from_slice(file.bytes())
 }
 
+// Adds a blank and a number.
+fn push_count(alloc: Global, out: &mut Vec<u8>, number: u64) -> Result<(), NoMemory>
+    ensures { OnOk result (out.new.items ≡ out.old.items ++ (codes " " ++ decimal number)) }
+{
+    out.extend_from_slice(b" ")?;
+    push_number(alloc, out, number)
+}
+
 // Adds a pool's command.
 fn push_command(
     alloc: Global,
@@ -62,8 +70,20 @@ fn push_command(
             out.extend_from_slice(b"mkds ")?;
             push_dataset(out, pool, dataset)
         }
+        Command::Rmds { dataset } => {
+            out.extend_from_slice(b"rmds ")?;
+            push_dataset(out, pool, dataset)
+        }
+        Command::Mount { dataset } => {
+            out.extend_from_slice(b"mount ")?;
+            push_dataset(out, pool, dataset)
+        }
         Command::Create { dataset, file } => {
             out.extend_from_slice(b"create ")?;
+            push_file(out, pool, dataset, file)
+        }
+        Command::Remove { dataset, file } => {
+            out.extend_from_slice(b"remove ")?;
             push_file(out, pool, dataset, file)
         }
         Command::Write {
@@ -74,10 +94,31 @@ fn push_command(
         } => {
             out.extend_from_slice(b"write ")?;
             push_file(out, pool, dataset, file)?;
-            out.extend_from_slice(b" ")?;
-            push_number(alloc, out, *offset)?;
+            push_count(alloc, out, *offset)?;
             out.extend_from_slice(b" ")?;
             push_digits(alloc, out, bytes.bytes())
+        }
+        Command::Fill {
+            dataset,
+            file,
+            offset,
+            length,
+            byte,
+        } => {
+            out.extend_from_slice(b"fill ")?;
+            push_file(out, pool, dataset, file)?;
+            push_count(alloc, out, *offset)?;
+            push_count(alloc, out, *length)?;
+            push_count(alloc, out, u64::from(*byte))
+        }
+        Command::Truncate {
+            dataset,
+            file,
+            size,
+        } => {
+            out.extend_from_slice(b"truncate ")?;
+            push_file(out, pool, dataset, file)?;
+            push_count(alloc, out, *size)
         }
         Command::Read {
             dataset,
@@ -87,10 +128,12 @@ fn push_command(
         } => {
             out.extend_from_slice(b"read ")?;
             push_file(out, pool, dataset, file)?;
-            out.extend_from_slice(b" ")?;
-            push_number(alloc, out, *offset)?;
-            out.extend_from_slice(b" ")?;
-            push_number(alloc, out, *length)
+            push_count(alloc, out, *offset)?;
+            push_count(alloc, out, *length)
+        }
+        Command::Stat { dataset, file } => {
+            out.extend_from_slice(b"stat ")?;
+            push_file(out, pool, dataset, file)
         }
         Command::Commit => {
             out.extend_from_slice(b"commit ")?;
@@ -110,13 +153,41 @@ pub fn print_line(
     out: &mut Vec<u8>,
 ) -> Result<(), NoMemory>
     ensures ok { OnOk result (out.new.items ≡ out.old.items ++ (command_line pool.now command.now ++ codes "\n")) }
-    ensures read_back { (pools : List (List ℕ)) (at : ℕ) → pool_at pools pool.now ≡ Some at → HasLine command.now → act_of pools (command_line pool.now command.now) ≡ Some (Pool at command.now) }
+    ensures read_back { (pools : List (List ℕ)) → IsTrue (is_pool_name pool.now) → HasLine command.now → said_of pools (command_line pool.now command.now) ≡ Some (Does (act_in pools pool.now command.now)) }
     ensures err { OnErr result (out.new.items ≡ out.old.items) }
 {
     let mut text = Vec::new(alloc);
     push_command(alloc, &mut text, pool, command)?;
     text.push(b'\n')?;
     out.extend_from_slice(text.as_slice())
+}
+
+/// Adds the line that puts the following ones into this session, and its end. Where there is the session, the line is read
+/// back as that.
+///
+/// # Errors
+/// Want of memory; `out` is then as it was.
+pub fn print_session(alloc: Global, session: u32, out: &mut Vec<u8>) -> Result<(), NoMemory>
+    ensures ok { OnOk result (out.new.items ≡ out.old.items ++ (session_line session ++ codes "\n")) }
+    ensures read_back { (pools : List (List ℕ)) → session ≤ 15 → said_of pools (session_line session) ≡ Some (Session session) }
+    ensures err { OnErr result (out.new.items ≡ out.old.items) }
+{
+    let mut text = Vec::new(alloc);
+    text.extend_from_slice(b"session ")?;
+    push_number(alloc, &mut text, u64::from(session))?;
+    text.push(b'\n')?;
+    out.extend_from_slice(text.as_slice())
+}
+
+/// Adds the answer to a line whose pool isn't there, and the end of its line.
+///
+/// # Errors
+/// Want of memory; `out` is then as it was.
+pub fn print_no_pool(out: &mut Vec<u8>) -> Result<(), NoMemory>
+    ensures ok { OnOk result (out.new.items ≡ out.old.items ++ (no_pool_text ++ codes "\n")) }
+    ensures err { OnErr result (out.new.items ≡ out.old.items) }
+{
+    out.extend_from_slice(b"ENXIO pool\n")
 }
 
 /// Adds the reply's text and the end of its line.

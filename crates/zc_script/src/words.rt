@@ -1,6 +1,6 @@
 // What single words say.
 ghost use Rattle.std.specs.Prelude.{◌≡◌, IfOk};
-ghost use Rattle.zc_script.specs.Words.{number_of, bytes_of, is_name_word};
+ghost use Rattle.zc_script.specs.Words.{number_of, session_of, byte_of, bytes_of, is_name_word};
 
 use hex::FromHexError;
 use std::alloc::{AllocError, Global};
@@ -32,6 +32,40 @@ pub fn number_of(text: &[u8]) -> Option<u64>
         Some(number)
     } else {
         None
+    }
+}
+
+// The session that a word names: a number of at most 15.
+#[tactic(auto, unfolding(crate::specs::Words::session_of))]
+pub fn session_of(text: &[u8]) -> Option<u32>
+    ensures { result ≡ session_of text.now }
+{
+    match number_of(text) {
+        Some(number) => {
+            if number <= 15 {
+                Some(number as u32)
+            } else {
+                None
+            }
+        }
+        None => None,
+    }
+}
+
+// The byte that a word spells: a number of at most 255.
+#[tactic(auto, unfolding(crate::specs::Words::byte_of))]
+pub fn byte_of(text: &[u8]) -> Option<u8>
+    ensures { result ≡ byte_of text.now }
+{
+    match number_of(text) {
+        Some(number) => {
+            if number <= 255 {
+                Some(number as u8)
+            } else {
+                None
+            }
+        }
+        None => None,
     }
 }
 

@@ -6,7 +6,7 @@ use Rattle.std.specs.declared.alloc.AllocError.{AllocError}
 use Rattle.zc_tape.specs.Tape.{Shape, Tape}
 use Rattle.zc_tape.proofs.Extends.{Extends}
 use Rattle.zc_command.specs.declared.command.Command.{Command}
-use Rattle.zc_command.specs.declared.command.Command.TheVariants.{Mkds, Create, Write, Read, Commit}
+use Rattle.zc_command.specs.declared.command.Command.TheVariants.{Mkds, Rmds, Mount, Create, Remove, Write, Fill, Truncate, Read, Stat, Commit}
 use Rattle.zc_command.specs.declared.reply.Reply.{Reply}
 use Rattle.zc_command.specs.declared.reply.Reply.TheVariants.{Done}
 use Rattle.zc_script.specs.declared.act.Line.{Line}
@@ -49,18 +49,30 @@ fault_of fault = Err fault
 pub answered_at_once : (state : PlainState) (command : Command) (reply : Reply) → Some reply ≡ reply_of state (asked command) → is_commit command ≡ false
 unfolding reply_of
 answered_at_once state (Mkds dataset) reply is = refl
+answered_at_once state (Rmds dataset) reply is = refl
+answered_at_once state (Mount dataset) reply is = refl
 answered_at_once state (Create dataset file) reply is = refl
+answered_at_once state (Remove dataset file) reply is = refl
 answered_at_once state (Write dataset file offset bytes) reply is = refl
+answered_at_once state (Fill dataset file offset len byte) reply is = refl
+answered_at_once state (Truncate dataset file size) reply is = refl
 answered_at_once state (Read dataset file offset len) reply is = refl
+answered_at_once state (Stat dataset file) reply is = refl
 answered_at_once state Commit reply is = absurd cc
 
 -- and what waits is one
 pub answered_later : (state : PlainState) (command : Command) → None ≡ reply_of state (asked command) → is_commit command ≡ true
 unfolding reply_of
 answered_later state (Mkds dataset) is = absurd cc
+answered_later state (Rmds dataset) is = absurd cc
+answered_later state (Mount dataset) is = absurd cc
 answered_later state (Create dataset file) is = absurd cc
+answered_later state (Remove dataset file) is = absurd cc
 answered_later state (Write dataset file offset bytes) is = absurd cc
+answered_later state (Fill dataset file offset len byte) is = absurd cc
+answered_later state (Truncate dataset file size) is = absurd cc
 answered_later state (Read dataset file offset len) is = absurd cc
+answered_later state (Stat dataset file) is = absurd cc
 answered_later state Commit is = refl
 
 -- how many commits one command is

@@ -1,5 +1,5 @@
 -- What a run came to: it survives, and where it was played to its end, it is whole.
-use Rattle.std.proofs.Common.{◌≡◌, ◌∙◌, ℕ, ◌+◌, ◌-◌, ◌≤◌, Bool, List, [], ◌∷◌, ◌++◌, length, Result, Ok, Err, refl, sym, ap, subst, append-nil, arith}
+use Rattle.std.proofs.Common.{◌≡◌, ◌∙◌, ℕ, ◌+◌, ◌-◌, ◌≤◌, Bool, true≢false, List, [], ◌∷◌, ◌++◌, length, Result, Ok, Err, refl, sym, ap, subst, append-nil, arith}
 use Rattle.std.specs.Prelude.{IsTrue, IfOk}
 use Rattle.std.specs.List.{All, AllByRecursion}
 use Rattle.std.proofs.lemmas.Bool.{leb-true}
@@ -12,10 +12,12 @@ use Rattle.zc_tape.proofs.Extends.{Extends}
 use Rattle.zc_tape.proofs.Held.{at_rest_first, reads_first}
 use Rattle.zc_tree.specs.declared.tree.Tree.{Tree}
 use Rattle.zc_command.specs.declared.command.Command.{Command}
-use Rattle.zc_command.specs.declared.command.Command.TheVariants.{Mkds, Create, Write, Read, Commit}
+use Rattle.zc_command.specs.declared.command.Command.TheVariants.{Mkds, Rmds, Mount, Create, Remove, Write, Fill, Truncate, Read, Stat, Commit}
 use Rattle.zc_script.specs.declared.act.Act.{Act}
-use Rattle.zc_script.specs.declared.act.Act.TheVariants.{Pool}
+use Rattle.zc_script.specs.declared.act.Act.TheVariants.{Pool, NoSuchPool}
 use Rattle.zc_script.specs.declared.act.Line.{Line}
+use Rattle.zc_script.specs.declared.scope.Scope.TheVariants.{Small}
+use Rattle.zc_script.specs.Scopes.{is_small_command}
 use Rattle.zc_script.specs.Spelling.{IsActOf, HasLine}
 use Rattle.zc_state.specs.State.{State, StandsFor, IsFresh}
 use Rattle.zc_plain.specs.declared.plain_pool.PlainPool.{PlainPool}
@@ -41,28 +43,35 @@ ok_of x = Ok x
 
 -- ---- commands of lines
 
--- a command that a line can spell is fit
-fit_line : (command : Command) → HasLine command → IsFit command
-fit_line (Mkds dataset) has = record { conditions = has.conditions; small = tt }
-fit_line (Create dataset file) has = record { conditions = has.conditions; small = tt }
-fit_line (Write dataset file offset bytes) has = record { conditions = has.conditions; small = leb-true (offset + length bytes) 4000 has.fits.2 }
-fit_line (Read dataset file offset len) has = record { conditions = has.conditions; small = tt }
-fit_line Commit has = record { conditions = has.conditions; small = tt }
+-- a small command that a line can spell is fit
+fit_line : (command : Command) → HasLine command → IsTrue (is_small_command command) → IsFit command
+fit_line (Mkds dataset) has small = record { conditions = has.conditions; small = tt }
+fit_line (Rmds dataset) has small = absurd (true≢false (sym small))
+fit_line (Mount dataset) has small = absurd (true≢false (sym small))
+fit_line (Create dataset file) has small = record { conditions = has.conditions; small = tt }
+fit_line (Remove dataset file) has small = absurd (true≢false (sym small))
+fit_line (Write dataset file offset bytes) has small = record { conditions = has.conditions; small = leb-true (offset + length bytes) 4000 small }
+fit_line (Fill dataset file offset len byte) has small = absurd (true≢false (sym small))
+fit_line (Truncate dataset file size) has small = absurd (true≢false (sym small))
+fit_line (Read dataset file offset len) has small = record { conditions = has.conditions; small = tt }
+fit_line (Stat dataset file) has small = absurd (true≢false (sym small))
+fit_line Commit has small = record { conditions = has.conditions; small = tt }
 
-fit_act : (pools : List (List ℕ)) (act : Act) → IsActOf pools act → IsFit (command_of act)
-fit_act pools (Pool at command) is = fit_line command is.1
+fit_act : (pools : List (List ℕ)) (act : Act) → IsActOf Small pools act → IsFit (command_of act)
+fit_act pools (Pool at command) is = fit_line command is.act_is.1 is.in_scope
+fit_act pools NoSuchPool is = absurd (true≢false (sym is.in_scope))
 
-fit_each : (pools : List (List ℕ)) (lines : List Line) → AllByRecursion (λ (line : Line). IsActOf pools line.act) lines → AllByRecursion IsFit (commands_of lines)
+fit_each : (pools : List (List ℕ)) (lines : List Line) → AllByRecursion (λ (line : Line). IsActOf Small pools line.act) lines → AllByRecursion IsFit (commands_of lines)
 fit_each pools [] are = tt
 fit_each pools (line ∷ lines) are = (fit_act pools line.act are.0, fit_each pools lines are.1)
 
 -- the lines of a script are over the pools that it was read for
-pub acts_of_script : (pools : List (List ℕ)) (lines : List Line) → All (λ (line : Line). IsActOf pools line.act) lines → AreActs lines
+pub acts_of_script : (pools : List (List ℕ)) (lines : List Line) → All (λ (line : Line). IsActOf Small pools line.act) lines → AreActs lines
 acts_of_script pools lines are = (pools, are)
 
 -- and their commands are fit
 pub acts_are_fit : (lines : List Line) → AreActs lines → AllByRecursion IsFit (commands_of lines)
-acts_are_fit lines acts = fit_each acts.0 lines (recursion_from_All (λ (line : Line). IsActOf acts.0 line.act) lines acts.1)
+acts_are_fit lines acts = fit_each acts.0 lines (recursion_from_All (λ (line : Line). IsActOf Small acts.0 line.act) lines acts.1)
 
 -- ---- the run
 
@@ -163,23 +172,17 @@ pub unopened_run_survives : (shape : Shape) (t u : Tape) (commands : List Comman
     → (s : State) → IsTrue t.told → StandsFor shape (reads t) s → Survives shape u s commands
 unopened_run_survives shape t u commands empty either s told stands = unopened_survives shape t u s commands empty stands (either s told (at_rest_first t empty) stands)
 
--- before any entry a state is its pool's beginning
-begun_again : (state : PlainState) → state.entries ≡ 0 → state ≡ begun state.pool
-begun_again state none = ap (λ (n : ℕ). with_entries n) none where
-  with_entries : ℕ → PlainState
-  with_entries n = record { pool = state.pool; entries = n }
-
 pub opened_run_is_played : {X : Type 0} (shape : Shape) (t u v : Tape) (live new : Live) (name : List ℕ) (lines : List Line) (text : List ℕ) (x : X)
     → t.calls ≡ []
     → ((s : State) → IsTrue t.told → AtRest t → StandsFor shape (reads t) s → LeavesEither shape s (claimed_state shape s) t u)
     → ((s : State) → IsTrue t.told → AtRest t → StandsFor shape (reads t) s → IsOpened shape u s live)
     → (IsTrue t.told → AtRest t → (s : State) × StandsFor shape (reads t) s)
-    → live.plain.entries ≡ 0 → 1 ≤ live.root.tree.group
+    → live.plain ≡ begun live.plain.pool → 1 ≤ live.root.tree.group
     → v.told ≡ t.told → (IsTrue t.told → v.start ≡ t.start)
     → text ≡ replies_to live.plain (commands_of lines) ++ end_line name (live.root.tree.group + length (commit_ends 0 (run_of lines)))
     → Goes shape u v live new (run_of lines) (ok_of x)
     → IsPlayed shape v name (commands_of lines) (run_of lines) text
-opened_run_is_played shape t u v live new name lines text x empty either opened stood entries some_group told_same start_same text_is goes =
+opened_run_is_played shape t u v live new name lines text x empty either opened stood begun_is some_group told_same start_same text_is goes =
     let commits : ℕ = length (commit_ends 0 (run_of lines)) in
     let group : live.root.tree.group + commits ≡ live.root.tree.group - 1 + 1 + commits = omega (arith, some_group) in
     record {
@@ -187,7 +190,7 @@ opened_run_is_played shape t u v live new name lines text x empty either opened 
       group = live.root.tree.group - 1;
       text_is =
           text_is
-          ∙ ap (λ (state : PlainState). replies_to state (commands_of lines) ++ end_line name (live.root.tree.group + commits)) (begun_again live.plain entries)
+          ∙ ap (λ (state : PlainState). replies_to state (commands_of lines) ++ end_line name (live.root.tree.group + commits)) begun_is
           ∙ ap (λ (n : ℕ). replies_to (begun live.plain.pool) (commands_of lines) ++ end_line name n) group;
       found = λ told.
           let told_first : IsTrue t.told = subst (λ (told : Bool). IsTrue told) told_same told in
@@ -212,13 +215,13 @@ pub opened_result_is_played : {T : Type 0} (shape now : Shape) (t u v : Tape) (l
     → ((s : State) → IsTrue t.told → AtRest t → StandsFor shape (reads t) s → LeavesEither shape s (claimed_state shape s) t u)
     → ((s : State) → IsTrue t.told → AtRest t → StandsFor shape (reads t) s → IsOpened shape u s live)
     → (IsTrue t.told → AtRest t → (s : State) × StandsFor shape (reads t) s)
-    → live.plain.entries ≡ 0 → 1 ≤ live.root.tree.group
+    → live.plain ≡ begun live.plain.pool → 1 ≤ live.root.tree.group
     → u.told ≡ t.told → (IsTrue t.told → Extends t u) → v.told ≡ u.told → (IsTrue u.told → v.start ≡ u.start)
     → IfOk result (λ text. items text ≡ replies_to live.plain (commands_of lines) ++ end_line name (live.root.tree.group + length (commit_ends 0 (run_of lines))))
     → Goes now u v live new (run_of lines) result
     → IfOk result (λ text. IsPlayed shape v name (commands_of lines) (run_of lines) (items text))
-opened_result_is_played shape now t u v live new name lines items (Ok text) same empty either opened stood entries some_group told_open longer told_run start_run text_is goes =
-    opened_run_is_played shape t u v live new name lines (items text) text empty either opened stood entries some_group (told_run ∙ told_open)
+opened_result_is_played shape now t u v live new name lines items (Ok text) same empty either opened stood begun_is some_group told_open longer told_run start_run text_is goes =
+    opened_run_is_played shape t u v live new name lines (items text) text empty either opened stood begun_is some_group (told_run ∙ told_open)
     (λ told. start_run (subst (λ (told : Bool). IsTrue told) (sym told_open) told) ∙ (longer told).start) text_is
     (subst (λ (shape : Shape). Goes shape u v live new (run_of lines) (ok_of text)) same goes)
-opened_result_is_played shape now t u v live new name lines items (Err fault) same empty either opened stood entries some_group told_open longer told_run start_run text_is goes = tt
+opened_result_is_played shape now t u v live new name lines items (Err fault) same empty either opened stood begun_is some_group told_open longer told_run start_run text_is goes = tt

@@ -2,21 +2,22 @@
 use Rattle.std.specs.Prelude.{ℕ, ◌+◌, Bool, true, false, List, [], ◌∷◌, ◌++◌, map, take, codes, unwrap_or}
 use Rattle.std.specs.Fmt.{decimal}
 use Rattle.zc_command.specs.declared.command.Command.{Command}
-use Rattle.zc_command.specs.declared.command.Command.TheVariants.{Mkds, Create, Write, Read, Commit}
+use Rattle.zc_command.specs.declared.command.Command.TheVariants.{Mkds, Rmds, Mount, Create, Remove, Write, Fill, Truncate, Read, Stat, Commit}
 use Rattle.zc_command.specs.declared.reply.Reply.{Reply}
 use Rattle.zc_command.specs.declared.reply.Reply.TheVariants.{Done}
 use Rattle.zc_command.specs.Texts.{reply_text}
 use Rattle.zc_script.specs.declared.act.Act.{Act}
-use Rattle.zc_script.specs.declared.act.Act.TheVariants.{Pool}
+use Rattle.zc_script.specs.declared.act.Act.TheVariants.{Pool, NoSuchPool}
 use Rattle.zc_script.specs.declared.act.Line.{Line}
 use Rattle.zc_plain.specs.declared.entry.Entry.{Entry}
 use Rattle.zc_plain.specs.declared.entry.Entry.TheVariants.{Ask}
 use Rattle.zc_plain.specs.declared.plain_pool.PlainPool.{PlainPool}
 use Rattle.zc_plain.specs.History.{PlainState, begun, step, reply_of}
 
--- the command of a line
+-- the command of a line; a line whose pool isn't there has one that no open pool takes
 abbrev pub command_of : Act → Command
 command_of (Pool at command) = command
+command_of NoSuchPool = Mount []
 
 -- the commands of lines, in order
 abbrev pub commands_of : List Line → List Command
@@ -53,9 +54,15 @@ end_line name group = codes "end " ++ (name ++ (codes " group " ++ (decimal grou
 -- the command is a commit
 abbrev pub is_commit : Command → Bool
 is_commit (Mkds dataset) = false
+is_commit (Rmds dataset) = false
+is_commit (Mount dataset) = false
 is_commit (Create dataset file) = false
+is_commit (Remove dataset file) = false
 is_commit (Write dataset file offset bytes) = false
+is_commit (Fill dataset file offset len byte) = false
+is_commit (Truncate dataset file size) = false
 is_commit (Read dataset file offset len) = false
+is_commit (Stat dataset file) = false
 is_commit Commit = true
 
 -- the number in front of the others, where the test holds

@@ -7,6 +7,7 @@ use Rattle.zc_root.specs.Root.{IsRoot}
 use Rattle.zc_command.specs.declared.command.Command.{Command}
 use Rattle.zc_command.specs.Names.{AreConditions}
 use Rattle.zc_script.specs.declared.act.Line.{Line}
+use Rattle.zc_script.specs.declared.scope.Scope.TheVariants.{Small}
 use Rattle.zc_script.specs.Spelling.{IsActOf}
 use Rattle.zc_state.specs.State.{State, StandsFor}
 use Rattle.zc_plain.specs.declared.plain_pool.PlainPool.{PlainPool}
@@ -23,9 +24,9 @@ use Rattle.zc_session.specs.Survives.{IsSizeOf, IsWhole}
 
 -- ---- what is done
 
--- the lines are of a script, over some pools
+-- the lines are of a script that asks for small files alone, over some pools
 abbrev pub AreActs : List Line → Type 0
-AreActs lines = (pools : List (List ℕ)) × All (λ (line : Line). IsActOf pools line.act) lines
+AreActs lines = (pools : List (List ℕ)) × All (λ (line : Line). IsActOf Small pools line.act) lines
 
 -- a command that an open pool may be asked
 pub record IsFit (command : Command) : Type 0 where

@@ -97,10 +97,12 @@ fn play_command<D: DiskSet>(
 
 // The command of a line.
 fn command_of(line: Line) -> Command
+    requires { IsFit (command_of line.act) }
     ensures { result ≡ command_of line.act }
 {
     match line.act {
         Act::Pool { command, .. } => command,
+        Act::NoSuchPool => unreachable!(),
     }
 }
 

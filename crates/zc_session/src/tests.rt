@@ -7,7 +7,7 @@ use std::alloc::Global;
 use std::process::Abort;
 use zc_num::{Limits, Name, NoMemory};
 use zc_pool::{CreateFault, create_pool};
-use zc_script::read_script;
+use zc_script::read_small_script;
 use zc_tape::{DiskSet, MemoryDisks};
 
 // Whether a pool may have the size of the disks.
@@ -50,7 +50,7 @@ fn text_of(
     assert!(rt; script.len() < 1000);
     let mut pools = Vec::new(alloc);
     pools.push(Name::of(alloc, b"tank")?)?;
-    let Ok(script) = read_script(alloc, script, pools.as_slice()) else {
+    let Ok(script) = read_small_script(alloc, script, pools.as_slice()) else {
         panic!(rt; "the script is bad");
     };
     let (_disks, played) = play_on(alloc, disks, b"tank", script.lines);

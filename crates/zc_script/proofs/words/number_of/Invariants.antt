@@ -1,5 +1,5 @@
 -- The number so far and the digits that are left make the number; i digits make one below 10 ^ i.
-use Rattle.std.proofs.Common.{◌≡◌, ◌<◌, ◌^◌, drop, length}
+use Rattle.std.proofs.Common.{◌≡◌, ◌<◌, ◌^◌, drop}
 use Rattle.std.specs.Str.{all_ascii_digits}
 use Rattle.std.specs.Str.Parse.{digits_value, digits_value_after}
 use Rattle.zc_script.proofs.words.number_of.Given as goal

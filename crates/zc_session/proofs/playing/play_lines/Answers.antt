@@ -33,6 +33,11 @@ play_command-requires-clause-group g c =
     let group = at.invariant.group in
     omega (arith, c.requires.group, few_commits_of_lines at.yielded)
 
+pub command_of-requires : goal.command_of-requires
+command_of-requires g c =
+    let steps : into_iter_items c.loop-line.line-iterator ≡ c.in-Some.line ∷ into_iter_items c.next.new.self = c.in-Some.ensures.steps.0 in
+    (subst (λ (lines : List Line). AllByRecursion IsFit (commands_of lines)) steps c.loop-line.invariant.fit).0
+
 pub play_command-requires-clause-fit : goal.play_command-requires-clause-fit
 play_command-requires-clause-fit g c =
     let steps : into_iter_items c.loop-line.line-iterator ≡ c.in-Some.line ∷ into_iter_items c.next.new.self = c.in-Some.ensures.steps.0 in

@@ -22,7 +22,7 @@ returns-in-Ok-clause-played g c =
     let opened = c.in-Ok.ensures in
     let run = c.play_run-text.ensures in
     opened_result_is_played (shape c.args.disks) (shape c.in-Ok.disks) (tape c.args.disks) (tape c.in-Ok.disks) (tape c.play_run-text.new.disks) c.in-Ok.live c.play_run-text.new.live c.args.name.now c.args.lines (λ (text : Vec ℕ Global). text.items)
-    c.play_run-text.result opened.shape c.requires.fresh opened.any_moment opened.live opened.stood opened.fresh_numbers.0 opened.fresh_numbers.2 opened.told opened.extends run.told run.began run.text run.goes
+    c.play_run-text.result opened.shape c.requires.fresh opened.any_moment opened.live opened.stood opened.no_entry opened.fresh_numbers.2 opened.told opened.extends run.told run.began run.text run.goes
 
 pub returns-in-Err-clause-survives : goal.returns-in-Err-clause-survives
 returns-in-Err-clause-survives g c =

@@ -4,8 +4,8 @@ use Rattle.zc_files.proofs.live.Live.ask.Goals as goal
 
 pub returns-clause-steady : goal.returns-clause-steady
 returns-clause-steady c shape steady =
-    steady_behind shape c.args.self.now c.apply.new.self c.apply.result c.args.session c.args.command c.requires.conditions c.requires.small c.apply.ensures steady
+    steady_behind shape c.args.self.now c.apply.new.self c.apply.result c.args.session c.args.command c.requires.conditions c.requires.small c.apply.ensures.steps steady
 
 pub returns-clause-live : goal.returns-clause-live
 returns-clause-live c shape t s steady is =
-    live_behind shape t s c.args.self.now c.apply.new.self c.apply.result c.args.session c.args.command c.requires.conditions c.requires.small c.apply.ensures steady is
+    live_behind shape t s c.args.self.now c.apply.new.self c.apply.result c.args.session c.args.command c.requires.conditions c.requires.small c.apply.ensures.steps steady is
