@@ -1,0 +1,9 @@
+pub mod AlikeLaws
+pub mod DatasetLaws
+pub mod FileLaws
+pub mod FoundLaws
+pub mod HoldLaws
+pub mod MappedLaws
+pub mod NextLaws
+pub mod NumberLaws
+pub mod RisingLaws

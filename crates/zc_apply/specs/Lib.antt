@@ -1,0 +1,4 @@
+pub mod Alike
+pub mod Found
+pub mod InParts
+pub mod Named

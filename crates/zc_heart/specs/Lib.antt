@@ -1,0 +1,13 @@
+pub mod Changes
+pub mod Core
+pub mod Deeds
+pub mod Directory
+pub mod DirectoryLending
+pub mod File
+pub mod Input
+pub mod Meaning
+pub mod Noted
+pub mod Opening
+pub mod Stamps
+pub mod Standing
+pub mod Steps
