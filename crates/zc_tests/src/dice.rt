@@ -64,7 +64,7 @@ impl Dice {
         let byte = self.below(256) as u8;
         match kind {
             0 | 1 => Step::Mkds(dataset),
-    
+            2 => Step::Rmds(dataset),
             3..=6 => Step::Create(dataset, file),
             7 => Step::Remove(dataset, file),
             8..=14 => Step::Fill(dataset, file, offset, length, byte),
