@@ -5,11 +5,13 @@ use zc_tree::{Dataset, File, Tree};
 
 // How many blocks the file has that are no holes, if the tree's file has just those.
 fn count_same(plain: &PlainFile, file: &File) -> Option<u64> {
-    let mut count = 0;
+    let mut count: u64 = 0;
     for k in 0..plain.blocks.len() {
         let index = u32::try_from(k).ok()?;
         match plain.blocks.get(k) {
-            Some(PlainBlock::Made { .. }) if file.slots.get(index).is_some() => count += 1,
+            Some(PlainBlock::Made { .. }) if file.slots.get(index).is_some() => {
+                count = count.saturating_add(1);
+            }
             Some(PlainBlock::Hole) if file.slots.get(index).is_none() => {}
             _ => return None,
         }
