@@ -3,7 +3,7 @@ use Rattle.std.proofs.Common.{◌≡◌, ℕ, ◌+◌, ◌/◌, ◌==◌, nat_lt
 use Rattle.std.specs.Prelude.{is_some, count_by, not, IfOk, OnErr, if◌then◌else◌}
 use Rattle.std.specs.Str.{bytes_eq}
 use Rattle.std.specs.declared.alloc.AllocError.{AllocError}
-use Rattle.std.proofs.lemmas.Bool.{cases_Bool}
+use Rattle.std.proofs.lemmas.Bool.{cases_Bool, false≢true}
 use Rattle.std.proofs.lemmas.List.{length-map, length-replicate}
 use Rattle.zc_num.specs.Words.{change_at}
 use Rattle.zc_num.proofs.Each.{each_none, each_same}
@@ -16,7 +16,7 @@ use Rattle.zc_command.specs.declared.refusal.Bad.TheVariants as bad
 use Rattle.zc_command.specs.declared.refusal.Refusal.{Refusal}
 use Rattle.zc_command.specs.declared.refusal.Refusal.TheVariants.{Enoent, Ebusy, Eexist, Einval, Enospc}
 use Rattle.zc_command.specs.declared.reply.Reply.{Reply}
-use Rattle.zc_command.specs.declared.reply.Reply.TheVariants.{Done, Data, Size, No}
+use Rattle.zc_command.specs.declared.reply.Reply.TheVariants.{Done, Count, Data, Size, No}
 use Rattle.zc_plain.specs.declared.finding.Path.{Path}
 use Rattle.zc_plain.specs.declared.plain_pool.PlainFile.{PlainFile}
 use Rattle.zc_plain.specs.declared.plain_pool.PlainDataset.{PlainDataset}
@@ -40,7 +40,7 @@ use Rattle.zc_heart.specs.Directory.{id_of, id_called, is_called}
 use Rattle.zc_heart.specs.Changes.{change_by, without}
 use Rattle.zc_heart.specs.Core.{plain_file, plain_dataset, plain_blocks, pool_of, charge, made_now, is_made, Agrees, IsHeartFile, IsDatasetOfCore, IsCore}
 use Rattle.zc_heart.specs.File.{bare, unmade_in}
-use Rattle.zc_heart.specs.Meaning.{Replies, Commands}
+use Rattle.zc_heart.specs.Meaning.{Replies, Commands, is_data}
 use Rattle.zc_heart.specs.Deeds.{place_of, dataset_of, files_in, spot_of, file_on, said_of, blocks_on as blocks_on_spot, bytes_on, size_on, made_on, unmade_on, cut_count, cut_on, pointers_at, Deed, number_of, with_file_changed, without_numbered, pool_behind, last_behind, blocks_there, blocks_by, Becomes, Does, IsLeft, Gives, mkds, rmds, mount, create, remove, room_in_file, refuse_charge, put_some, put, write, truncate, read, stat, named_answer}
 use Rattle.zc_heart.specs.Deeds as deeds
 use Rattle.zc_heart.specs.Deeds.{Nothing, AddDataset, DropDataset, AddFile, DropFile, PutBytes, SetSize}
@@ -424,3 +424,78 @@ pub kept : (number : ℕ) (command : Command) (old new : Core) (result : Result 
 kept number command old new (Ok reply) is given left = kept_by old new reply (deeds.answer number old command) is given
 kept number command old new (Err fault) is given left =
     (left.is, record { leads = left.stays.leads; knows = left.stays.knows; group = left.stays.group; waiting = left.stays.waiting; limits = ap (λ (pool : PlainPool). pool.limits) left.stays.pool })
+
+-- ---- a reply with bytes
+
+-- where the reply has bytes, nothing is done
+abbrev IsQuiet : Result (Reply × Deed) Refusal → Type 0
+IsQuiet (Ok done) = is_data done.0 ≡ true → done.1 ≡ Nothing
+IsQuiet (Err refusal) = Unit {0}
+
+-- so it is behind one test
+quiet_behind : {X : Type 0} (test : Result X Refusal) (next : X → Result (Reply × Deed) Refusal) → ((x : X) → IsQuiet (next x)) → IsQuiet (test >>= next)
+quiet_behind (Ok x) next quiet = quiet x
+quiet_behind (Err refusal) next quiet = tt
+
+put_some_quiet : (number : ℕ) (spot : Spot) (offset : ℕ) (bytes : List ℕ) (core : Core) → IsQuiet (put_some number spot offset bytes core)
+unfolding put_some
+put_some_quiet number spot offset bytes core =
+    quiet_behind (room_in_file offset (length bytes) spot core) _ (λ _.
+    quiet_behind (refuse_charge (unmade_on (first_touched offset) (touched_count offset (length bytes)) spot core) core) _ (λ _.
+    λ with_bytes. absurd (false≢true with_bytes)))
+
+put_quiet : (number : ℕ) (spot : Spot) (offset : ℕ) (bytes : List ℕ) (core : Core) → IsQuiet (put number spot offset bytes core)
+unfolding put
+put_quiet number spot offset bytes core = by (length bytes == 0)
+  where
+    by : (empty : Bool) → IsQuiet (if empty then Ok (Count 0, Nothing) else put_some number spot offset bytes core)
+    by true = λ with_bytes. absurd (false≢true with_bytes)
+    by false = put_some_quiet number spot offset bytes core
+
+write_quiet : (number : ℕ) (dataset file : List ℕ) (offset : ℕ) (bytes : List ℕ) (core : Core) → IsQuiet (write number dataset file offset bytes core)
+unfolding write
+write_quiet number dataset file offset bytes core = quiet_behind (spot_of dataset file core) _ (λ spot. put_quiet number spot offset bytes core)
+
+named_quiet : (number : ℕ) (core : Core) (command : Command) → IsQuiet (named_answer number core command)
+unfolding mkds rmds mount create remove truncate read stat
+named_quiet number core (Mkds dataset) =
+    quiet_behind (refuse_if (is_some (place_of dataset core)) Eexist) _ (λ _.
+    quiet_behind (refuse_if (nat_lt most_datasets (length core.datasets + 1)) (Enospc what.Datasets (length core.datasets + 1) most_datasets)) _ (λ _.
+    λ with_bytes. absurd (false≢true with_bytes)))
+named_quiet number core (Rmds dataset) = quiet_behind (dataset_of dataset core) _ (λ place. λ with_bytes. absurd (false≢true with_bytes))
+named_quiet number core (Mount dataset) = quiet_behind (dataset_of dataset core) _ (λ place. tt)
+named_quiet number core (Create dataset file) =
+    quiet_behind (dataset_of dataset core) _ (λ place.
+    quiet_behind (refuse_if (is_some (id_called file (files_in place core))) Eexist) _ (λ _.
+    quiet_behind (refuse_if (nat_lt (most_files (pool_of core)) (length (files_in place core) + 1)) (Enospc what.Files (length (files_in place core) + 1) (most_files (pool_of core)))) _ (λ _.
+    λ with_bytes. absurd (false≢true with_bytes))))
+named_quiet number core (Remove dataset file) = quiet_behind (spot_of dataset file core) _ (λ spot. λ with_bytes. absurd (false≢true with_bytes))
+named_quiet number core (Write dataset file offset bytes) = write_quiet number dataset file offset bytes core
+named_quiet number core (Fill dataset file offset len byte) = write_quiet number dataset file offset (replicate len byte) core
+named_quiet number core (Truncate dataset file size) =
+    quiet_behind (spot_of dataset file core) _ (λ spot.
+    quiet_behind (refuse_end size (pool_of core)) _ (λ _.
+    quiet_behind (refuse_charge (unmade_on (size / 4096) (cut_on size spot core) spot core) core) _ (λ _.
+    λ with_bytes. absurd (false≢true with_bytes))))
+named_quiet number core (Read dataset file offset len) =
+    quiet_behind (spot_of dataset file core) _ (λ spot.
+    quiet_behind (refuse_if (nat_lt most_read len) (Einval bad.Length)) _ (λ _.
+    λ with_bytes. refl))
+named_quiet number core (Stat dataset file) = quiet_behind (spot_of dataset file core) _ (λ spot. λ with_bytes. absurd (false≢true with_bytes))
+named_quiet number core Commit = λ with_bytes. absurd (false≢true with_bytes)
+
+answer_quiet : (number : ℕ) (core : Core) (command : Command) → IsQuiet (deeds.answer number core command)
+unfolding deeds.answer
+answer_quiet number core command = quiet_behind (refuse_long command) _ (λ _. named_quiet number core command)
+
+unchanged_by : (old new : Core) (reply : Reply) (does : Result (Reply × Deed) Refusal) → IsQuiet does → Gives old new reply does → is_data reply ≡ true → new ≡ old
+unchanged_by old new reply (Ok does) quiet gives with_bytes =
+    let said : is_data does.0 ≡ true = subst (λ (r : Reply). is_data r ≡ true) gives.0 with_bytes in
+    subst (λ (deed : Deed). Does deed old new) (quiet said) gives.1
+unchanged_by old new reply (Err refusal) quiet gives with_bytes = gives.1
+
+-- a reply with bytes leaves the heart as it was
+pub unchanged : (number : ℕ) (command : Command) (old new : Core) (result : Result Reply AllocError) → IfOk result (λ reply. Gives old new reply (deeds.answer number old command))
+    → IfOk result (λ reply. is_data reply ≡ true → new ≡ old)
+unchanged number command old new (Ok reply) given = unchanged_by old new reply (deeds.answer number old command) (answer_quiet number old command) given
+unchanged number command old new (Err fault) given = tt

@@ -14,6 +14,7 @@ use Rattle.zc_tree.specs.Catalogue.{AreDatasets}
 use Rattle.zc_tree.specs.Reach.{pointers_of_tree}
 use Rattle.zc_command.specs.declared.command.Command.{Command}
 use Rattle.zc_command.specs.declared.reply.Reply.{Reply}
+use Rattle.zc_command.specs.declared.reply.Reply.TheVariants as reply
 use Rattle.zc_plain.specs.declared.plain_pool.PlainBlock.{PlainBlock}
 use Rattle.zc_plain.specs.declared.plain_pool.PlainBlock.TheVariants.{Hole, Made}
 use Rattle.zc_plain.specs.declared.plain_pool.PlainFile.{PlainFile}
@@ -58,6 +59,14 @@ abbrev pub Replies : (number : ℕ) → Command → Core → Core → Result Rep
 Replies number command old new (Ok reply) =
     (tally : Tally) → Agrees tally old → (settled (pool_of old) (answer number tally (pool_of old) command) ≡ (reply, pool_of new)) × Agrees (tally_behind number tally (pool_of old) command) new
 Replies number command old new (Err fault) = Stays old new
+
+-- the reply has bytes in it
+abbrev pub is_data : Reply → Bool
+is_data reply.Done = false
+is_data (reply.Count bytes) = false
+is_data (reply.Data bytes) = true
+is_data (reply.Size size blocks) = false
+is_data (reply.No refusal) = false
 
 -- What a command leaves of a heart.
 pub record Commands (old new : Core) : Type 0 where

@@ -1,7 +1,7 @@
 // What each command does.
 //
 // The tests come first and change nothing. What is then made takes its memory before the first change, or is taken back.
-ghost use Rattle.std.specs.Prelude.{◌≡◌, ◌+◌, ◌-◌, ◌^◌, ◌<◌, ◌≤◌, IfOk, OnErr, IsSome, length};
+ghost use Rattle.std.specs.Prelude.{◌≡◌, ◌+◌, ◌-◌, ◌^◌, ◌<◌, ◌≤◌, true, IfOk, OnErr, IsSome, length};
 ghost use Rattle.zc_command.specs.Names.{AreConditions};
 ghost use Rattle.zc_plain.specs.IsPlain.{AreNextUpTo};
 ghost use Rattle.zc_heart.specs.Core.{pool_of, IsCore};
@@ -9,7 +9,7 @@ ghost use Rattle.zc_heart.specs.Deeds as deeds;
 ghost use Rattle.zc_heart.specs.Deeds.{IsLeft, Gives, file_on};
 ghost use Rattle.zc_command.specs.declared.reply.Reply.TheVariants as reply;
 ghost use Rattle.zc_heart.specs.Input.{input_bytes};
-ghost use Rattle.zc_heart.specs.Meaning.{Replies, Commands};
+ghost use Rattle.zc_heart.specs.Meaning.{Replies, Commands, is_data};
 
 use crate::dataset::{Spot, dataset_at, dataset_of, file_on, place_of, refuse_long, spot_of};
 use crate::making::{add_dataset, add_file, drop_dataset, drop_file, put_bytes, set_size};
@@ -44,6 +44,7 @@ pub fn command(
     ensures reply { Replies number command.now core.old core.new result }
     ensures kept { Commands core.old core.new }
     ensures last { core.new.last ≤ number }
+    ensures bytes { IfOk result (λ reply. is_data reply ≡ true → core.new ≡ core.old) }
     ensures core { IsCore core.new }
 {
     answer(alloc, core, number, command)

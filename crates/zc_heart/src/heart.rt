@@ -1,9 +1,9 @@
-ghost use Rattle.std.specs.Prelude.{◌≡◌, ◌<◌, ◌≤◌, ◌-◌, ◌^◌, IfOk, OnErr, IsTrue, nat_lt};
+ghost use Rattle.std.specs.Prelude.{◌≡◌, ◌<◌, ◌≤◌, ◌-◌, ◌^◌, true, IfOk, OnErr, IsTrue, nat_lt};
 ghost use Rattle.std.specs.List.{list_all};
 ghost use Rattle.zc_command.specs.Names.{AreConditions};
 ghost use Rattle.zc_plain.specs.IsPlain.{AreNextUpTo};
 ghost use Rattle.zc_heart.specs.Core.{pool_of, IsCore};
-ghost use Rattle.zc_heart.specs.Meaning.{Stays, Replies, Commands, IsSealed, MayAbsorb, Absorbs, MayOpen, IsOpened, dataset_number};
+ghost use Rattle.zc_heart.specs.Meaning.{Stays, Replies, Commands, is_data, IsSealed, MayAbsorb, Absorbs, MayOpen, IsOpened, dataset_number};
 
 use crate::changes::{GroupDone, Sealed};
 use crate::opening::HeartBlock;
@@ -55,7 +55,7 @@ impl Heart {
     }
 
     /// What the command answers, which is the entry with the number in the pool's history. Its time grows with the blocks that it
-    /// touches, times a logarithm. A commit is answered as one that changes nothing.
+    /// touches, times a logarithm. A commit is answered as one that changes nothing. A reply with bytes leaves all as it was.
     ///
     /// # Errors
     /// Want of memory; nothing has changed.
@@ -66,6 +66,7 @@ impl Heart {
         ensures reply { Replies number command.now self.old self.new result }
         ensures kept { Commands self.old self.new }
         ensures last { self.new.last ≤ number }
+        ensures bytes { IfOk result (λ reply. is_data reply ≡ true → self.new ≡ self.old) }
     {
         crate::commands::command(self.alloc, &mut self.core, number, command)
     }

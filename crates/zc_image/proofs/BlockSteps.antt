@@ -1,13 +1,13 @@
 -- Blocks that are gathered place by place: what was gathered so far, and what is still to be read.
-use Rattle.std.proofs.Common.{◌≡◌, ◌∙◌, ℕ, zero, suc, ◌+◌, ◌-◌, ◌/◌, ◌%◌, ◌<◌, ◌≤◌, Bool, true, false, not, ◌&&◌, eqb, List, [], ◌∷◌, ◌++◌, Option, Some, None, Result, Ok, Err, refl, sym, ap, subst, append_assoc, arith}
+use Rattle.std.proofs.Common.{◌≡◌, ◌∙◌, ℕ, zero, suc, ◌+◌, ◌-◌, ◌/◌, ◌%◌, ◌<◌, ◌≤◌, Bool, true, false, cond, not, ◌&&◌, eqb, List, [], ◌∷◌, ◌++◌, map, filter, Option, Some, None, is_some, Result, Ok, Err, refl, sym, ap, subst, append_assoc, add-one, add-zero, zero-add, arith}
 use Rattle.std.specs.Str.{bytes_eq}
-use Rattle.std.specs.List.{All}
+use Rattle.std.specs.List.{All, range_with_len}
 use Rattle.std.specs.List.Sorted.{IsStrictlyIncreasing}
 use Rattle.std.proofs.lemmas.Bool.{and_parts, not-false}
 use Rattle.std.proofs.lemmas.Slice.Eq.{bytes_eq-Decides}
 use Rattle.std.proofs.lemmas.Grind.{common_steps}
-use Rattle.std.proofs.lemmas.List.{append-nil}
-use Rattle.std.proofs.lemmas.List.Elements.{All-append}
+use Rattle.std.proofs.lemmas.List.{append-nil, map-append}
+use Rattle.std.proofs.lemmas.List.Elements.{All-append, filter-append}
 use Rattle.zc_num.specs.Limits.{total_of}
 use Rattle.zc_num.specs.declared.numbers.PlaceAt.{PlaceAt}
 use Rattle.zc_blkptr.specs.Digest.{digest_bytes}
@@ -18,15 +18,17 @@ use Rattle.zc_damage.specs.declared.block.FoundBlock.{FoundBlock}
 use Rattle.zc_damage.specs.declared.damage.Damage.{Damage}
 use Rattle.zc_damage.specs.declared.damage.DamageKind.TheVariants.{Block}
 use Rattle.zc_damage.specs.Words.{or_else, when}
-use Rattle.zc_damage.specs.Places.{pointers_to, has_place, numbers_of}
+use Rattle.zc_damage.specs.Places.{pointers_to, is_reached, has_place, numbers_of}
 use Rattle.zc_damage.specs.Census.{first_in}
 use Rattle.zc_damage.specs.Checks.{differ, other_block, owners_of, owners_at, owner_hit, owner_hit_at, owner_hit_in, beside}
+use Rattle.zc_damage.proofs.CensusLaws.{reached_as}
 use Rattle.zc_damage.proofs.FirstLaws.{none_from, neither, none_of_both, one_if_some}
+use Rattle.zc_state.specs.State.{place_at, place_of, block_places}
 use Rattle.zc_state.specs.Reading.{block_damage, block_at, with_block, blocks_from, blocks_of}
 use Rattle.zc_image.specs.declared.fault.ImageFault.{ImageFault}
 use Rattle.zc_image.specs.declared.fault.ImageFault.TheVariants.{NoMemory, NoPool, DiskFault, Damaged}
 use Rattle.zc_image.specs.Answers.{IsWhole, Fails}
-use Rattle.zc_image.specs.Gathering.{unless_damaged, and_block, and_block_by, gathered, before, IsRisingTo}
+use Rattle.zc_image.specs.Gathering.{unless_damaged, and_block, and_block_by, gathered, before, IsRisingTo, AreBlocksBelow}
 
 -- ---- numbers that rise
 
@@ -49,10 +51,64 @@ rises_by_one n m xs e is = subst (λ (k : ℕ). IsRisingTo (n + 1) (xs ++ k ∷ 
   below = All-append (λ (k : ℕ). k < n + 1) xs (n ∷ []) (rises_further n xs is).below (all_one (λ (k : ℕ). k < n + 1) n (omega arith));
 })
 
+-- ---- the places of the blocks
+
+-- one number more behind so many
+range_more : (first n : ℕ) → range_with_len first (n + 1) ≡ range_with_len first n ++ (first + n) ∷ []
+range_more first n = ap (range_with_len first) (add-one n) ∙ more first n where
+  more : (first n : ℕ) → range_with_len first (suc n) ≡ range_with_len first n ++ (first + n) ∷ []
+  more first zero = ap (λ (k : ℕ). k ∷ []) (sym (add-zero first))
+  more first (suc n) = let along : first + 1 + n ≡ first + suc n = omega arith in ap (λ (ks : List ℕ). first ∷ ks) (more (first + 1) n ∙ ap (λ (k : ℕ). range_with_len (first + 1) n ++ k ∷ []) along)
+
+-- the places below this number to which a pointer is
+abbrev reached_below : (places : ℕ) → List Ptr → ℕ → List PlaceAt
+reached_below places reach number = map (place_at places) (filter (is_reached places reach) (range_with_len 0 number))
+
+-- those below one number more
+below_more : (places : ℕ) (reach : List Ptr) (number : ℕ)
+    → reached_below places reach (number + 1) ≡ reached_below places reach number ++ map (place_at places) (cond (is_reached places reach number) (number ∷ []) [])
+below_more places reach number =
+    let more : range_with_len 0 (number + 1) ≡ range_with_len 0 number ++ number ∷ [] = range_more 0 number ∙ ap (λ (k : ℕ). range_with_len 0 number ++ k ∷ []) (zero-add number) in
+    ap (λ (ns : List ℕ). map (place_at places) (filter (is_reached places reach) ns)) more
+    ∙ ap (map (place_at places)) (filter-append (is_reached places reach) (range_with_len 0 number) (number ∷ []))
+    ∙ map-append (place_at places) (filter (is_reached places reach) (range_with_len 0 number)) (filter (is_reached places reach) (number ∷ []))
+
+-- a place is reached just where there is a first pointer to it
+reached_by : (places : ℕ) (reach : List Ptr) (number : ℕ) (first : Option Ptr) → first_in (pointers_to places reach number) ≡ first → is_reached places reach number ≡ is_some first
+reached_by places reach number first is = sym (reached_as places reach number) ∙ ap is_some is
+
+-- below 0 there is no place
+pub no_blocks_below : (places : ℕ) (reach : List Ptr) (blocks : List FoundBlock) → blocks ≡ [] → AreBlocksBelow places reach 0 blocks
+no_blocks_below places reach blocks none = record { there = ap (map place_of) none }
+
+-- a place to which no pointer is adds none
+pub no_block_more : (places : ℕ) (reach : List Ptr) (number : ℕ) (blocks : List FoundBlock) → first_in (pointers_to places reach number) ≡ None
+    → AreBlocksBelow places reach number blocks → AreBlocksBelow places reach (number + 1) blocks
+no_block_more places reach number blocks none are = record {
+  there = are.there ∙ sym (append-nil (reached_below places reach number))
+      ∙ sym (below_more places reach number ∙ ap (λ (b : Bool). reached_below places reach number ++ map (place_at places) (cond b (number ∷ []) [])) (reached_by places reach number None none));
+}
+
+-- a place to which a pointer is adds its block
+pub one_block_more : (places : ℕ) (reach : List Ptr) (number : ℕ) (blocks : List FoundBlock) (block : FoundBlock) (ptr : Ptr) → first_in (pointers_to places reach number) ≡ Some ptr
+    → block.device ≡ number / places → block.place ≡ number % places → AreBlocksBelow places reach number blocks → AreBlocksBelow places reach (number + 1) (blocks ++ block ∷ [])
+one_block_more places reach number blocks block ptr some device place are =
+    let here : place_of block ≡ place_at places number = λ i. record { device = device i; place = place i } in
+    record {
+      there = map-append place_of blocks (block ∷ []) ∙ ap (λ (front : List PlaceAt). front ++ place_of block ∷ []) are.there
+          ∙ ap (λ (at : PlaceAt). reached_below places reach number ++ at ∷ []) here
+          ∙ sym (below_more places reach number ∙ ap (λ (b : Bool). reached_below places reach number ++ map (place_at places) (cond b (number ∷ []) [])) (reached_by places reach number (Some ptr) some));
+    }
+
+-- those below the number of all places are those of the pool
+pub all_blocks_below : (devices places : ℕ) (reach : List Ptr) (number : ℕ) (blocks : List FoundBlock) → number ≡ total_of devices places
+    → AreBlocksBelow places reach number blocks → map place_of blocks ≡ block_places devices places reach
+all_blocks_below devices places reach number blocks all are = are.there ∙ ap (reached_below places reach) all
+
 -- ---- the first pointer decides
 
 -- a place without two owners that don't agree has no block of another pointer than the first
-no_other_block : (in_catalogue : Bool) (first : Ptr) (ptrs : List Ptr) → owners_of in_catalogue (first ∷ ptrs) ≡ None → other_block first ptrs ≡ None
+pub no_other_block : (in_catalogue : Bool) (first : Ptr) (ptrs : List Ptr) → owners_of in_catalogue (first ∷ ptrs) ≡ None → other_block first ptrs ≡ None
 no_other_block true first ptrs e = absurd cc
 no_other_block false first ptrs e = at (other_block first ptrs) e where
   at : (other : Option ℕ) → beside first.physical other ≡ None → other ≡ None
@@ -60,7 +116,7 @@ no_other_block false first ptrs e = at (other_block first ptrs) e where
   at (Some birth) e = absurd cc
 
 -- an item behind a test that isn't there
-test_fails : {Y : Type 0} (test : Bool) (y : Y) → when test y ≡ None → test ≡ false
+pub test_fails : {Y : Type 0} (test : Bool) (y : Y) → when test y ≡ None → test ≡ false
 test_fails true y e = absurd cc
 test_fails false y e = refl
 
@@ -138,7 +194,7 @@ no_owners : (places number : ℕ) (owners : Option (ℕ × ℕ)) → owner_hit_i
 no_owners places number None e = refl
 no_owners places number (Some births) e = absurd cc
 
-owners_apart : (devices places : ℕ) (chain : List PlaceAt) (reach : List Ptr) (number : ℕ) → owner_hit devices places chain reach ≡ None → number < total_of devices places → owners_at places chain reach number ≡ None
+pub owners_apart : (devices places : ℕ) (chain : List PlaceAt) (reach : List Ptr) (number : ℕ) → owner_hit devices places chain reach ≡ None → number < total_of devices places → owners_at places chain reach number ≡ None
 owners_apart devices places chain reach number none lt =
     no_owners places number (owners_at places chain reach number) (none_from (owner_hit_at places chain reach) 0 (total_of devices places) none number (omega arith) (omega arith))
 

@@ -1,5 +1,6 @@
 pub mod BlockSteps
 pub mod ChainSteps
+pub mod CheckedLaws
 pub mod PoolLaws
 pub mod SeenLaws
 pub mod StepLaws

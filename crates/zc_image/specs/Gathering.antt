@@ -1,13 +1,14 @@
 -- The blocks that are gathered place by place.
-use Rattle.std.specs.Prelude.{ℕ, ◌<◌, ◌/◌, ◌%◌, List, [], ◌∷◌, ◌++◌, Option, Some, None, Result, Ok, Err}
-use Rattle.std.specs.List.{All}
+use Rattle.std.specs.Prelude.{◌≡◌, ℕ, ◌<◌, ◌/◌, ◌%◌, List, [], ◌∷◌, ◌++◌, map, filter, Option, Some, None, Result, Ok, Err}
+use Rattle.std.specs.List.{All, range_with_len}
 use Rattle.std.specs.List.Sorted.{IsStrictlyIncreasing}
 use Rattle.zc_blkptr.specs.declared.ptr.Ptr.{Ptr}
 use Rattle.zc_tape.specs.Tape.{Image}
 use Rattle.zc_damage.specs.declared.block.FoundBlock.{FoundBlock}
 use Rattle.zc_damage.specs.declared.damage.Damage.{Damage}
-use Rattle.zc_damage.specs.Places.{pointers_to}
+use Rattle.zc_damage.specs.Places.{pointers_to, is_reached}
 use Rattle.zc_damage.specs.Census.{first_in}
+use Rattle.zc_state.specs.State.{place_at, place_of}
 use Rattle.zc_state.specs.Reading.{block_damage, block_at}
 
 -- the value, where there is no damage
@@ -42,3 +43,7 @@ before blocks (Err damage) = Err damage
 pub record IsRisingTo (number : ℕ) (numbers : List ℕ) : Type 0 where
   pub rising : IsStrictlyIncreasing numbers
   pub below : All (λ k. k < number) numbers
+
+-- the blocks are those of the places below this number to which a pointer is, each once, ascending
+pub record AreBlocksBelow (places : ℕ) (reach : List Ptr) (number : ℕ) (blocks : List FoundBlock) : Type 0 where
+  pub there : map place_of blocks ≡ map (place_at places) (filter (is_reached places reach) (range_with_len 0 number))

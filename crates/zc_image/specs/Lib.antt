@@ -1,5 +1,6 @@
 pub mod Answers
 pub mod Blocks
+pub mod Checked
 pub mod Following
 pub mod Found
 pub mod Gathering

@@ -1,5 +1,5 @@
 // The blocks that the pointers are to.
-ghost use Rattle.std.specs.Prelude.{◌≡◌, ◌<◌, ◌≤◌, ◌+◌, ◌/◌, ◌%◌, IfOk, OnOk, IsErrOf, None};
+ghost use Rattle.std.specs.Prelude.{◌≡◌, ◌<◌, ◌≤◌, ◌+◌, ◌/◌, ◌%◌, map, IfOk, OnOk, IsErrOf, None};
 ghost use Rattle.std.specs.Str.{bytes_eq};
 ghost use Rattle.std.specs.List.Sorted.{IsStrictlyIncreasing};
 ghost use Rattle.zc_num.specs.Limits.{total_of};
@@ -7,9 +7,10 @@ ghost use Rattle.zc_tape.specs.Cause.{Rose};
 ghost use Rattle.zc_tape.specs.Crash.{reads};
 ghost use Rattle.zc_damage.specs.Places.{numbers_of};
 ghost use Rattle.zc_damage.specs.Checks.{owner_hit};
+ghost use Rattle.zc_state.specs.State.{place_of, block_places};
 ghost use Rattle.zc_state.specs.Reading.{blocks_of};
 ghost use Rattle.zc_image.specs.Answers.{IsWhole, Answers, Tells};
-ghost use Rattle.zc_image.specs.Gathering.{block_by, gathered, IsRisingTo};
+ghost use Rattle.zc_image.specs.Gathering.{block_by, gathered, IsRisingTo, AreBlocksBelow};
 
 use crate::ImageFault;
 use crate::block::{read_place, zeros};
@@ -81,6 +82,7 @@ fn is_same(left: &[u8; 16], right: &[u8; 16]) -> bool
 }
 
 // Adds the block at the place with this number, if a pointer is to it.
+#[tactic(auto, using(crate::proofs::BlockSteps::no_block_more, crate::proofs::BlockSteps::one_block_more))]
 fn add_block<D: DiskSet>(
     alloc: Global,
     disks: &mut D,
@@ -96,6 +98,7 @@ fn add_block<D: DiskSet>(
     requires places { limits.now.places ≡ (D.shape disks.old).places }
     ensures exact { IsWhole (D.tape disks.old) → Answers (λ _. blocks.new) result (gathered limits.now.places (reads (D.tape disks.old)) census.now.reach number blocks.old) }
     ensures rising { OnOk result (IsRisingTo number (numbers_of limits.now.places blocks.old) → IsRisingTo (number + 1) (numbers_of limits.now.places blocks.new)) }
+    ensures there { OnOk result (AreBlocksBelow limits.now.places census.now.reach number blocks.old → AreBlocksBelow limits.now.places census.now.reach (number + 1) blocks.new) }
     ensures tape { D.tape disks.new ≡ D.tape disks.old }
     ensures shape { D.shape disks.new ≡ D.shape disks.old }
     ensures spare { D.spare disks.new ≡ D.spare disks.old }
@@ -127,6 +130,7 @@ pub fn read_blocks<D: DiskSet>(
     ensures exact { IsWhole (D.tape disks.old) → Answers (λ blocks. blocks) result
         (blocks_of limits.now.devices limits.now.places (reads (D.tape disks.old)) census.now.reach) }
     ensures ascending { IfOk result (λ blocks. IsStrictlyIncreasing (numbers_of limits.now.places blocks)) }
+    ensures there { IfOk result (λ blocks. map place_of blocks ≡ block_places limits.now.devices limits.now.places census.now.reach) }
     ensures tape { D.tape disks.new ≡ D.tape disks.old }
     ensures shape { D.shape disks.new ≡ D.shape disks.old }
     ensures spare { D.spare disks.new ≡ D.spare disks.old }

@@ -1,5 +1,5 @@
 // The checks of what a catalogue says, and the blocks that its pointers are to.
-ghost use Rattle.std.specs.Prelude.{◌≡◌, ◌≤◌, OnOk, IsErrOf, None};
+ghost use Rattle.std.specs.Prelude.{◌≡◌, ◌≤◌, IfOk, OnOk, IsErrOf, None};
 ghost use Rattle.zc_tape.specs.Cause.{Rose};
 ghost use Rattle.zc_tape.specs.Crash.{reads};
 ghost use Rattle.zc_tree.specs.Catalogue.{AreParts};
@@ -8,6 +8,7 @@ ghost use Rattle.zc_damage.specs.Places.{ChainPlaces};
 ghost use Rattle.zc_damage.specs.Checks.{HaveAreas, worn_hit};
 ghost use Rattle.zc_damage.specs.Census.{IsCensus};
 ghost use Rattle.zc_image.specs.Answers.{IsWhole, Answers};
+ghost use Rattle.zc_image.specs.Checked.{IsChecked};
 ghost use Rattle.zc_image.specs.Steps.{blocks_in};
 
 use crate::ImageFault;
@@ -35,6 +36,7 @@ fn check_and_read<D: DiskSet>(
     requires places { limits.now.places ≡ (D.shape disks.old).places }
     ensures exact { IsWhole (D.tape disks.old) → Answers (λ blocks. blocks) result (blocks_in limits.now.devices limits.now.places (reads (D.tape disks.old)) chain.now parts.now) }
     ensures fresh { OnOk result (worn_hit parts.now.tree ≡ None) }
+    ensures checked { IfOk result (λ blocks. IsChecked limits.now.devices limits.now.places parts.now chain.now blocks) }
     ensures tape { D.tape disks.new ≡ D.tape disks.old }
     ensures shape { D.shape disks.new ≡ D.shape disks.old }
     ensures spare { D.spare disks.new ≡ D.spare disks.old }
@@ -65,6 +67,7 @@ pub fn read_reach<D: DiskSet>(
     requires places { limits.now.places ≡ (D.shape disks.old).places }
     ensures exact { IsWhole (D.tape disks.old) → Answers (λ blocks. blocks) result (blocks_in limits.now.devices limits.now.places (reads (D.tape disks.old)) chain.now parts.now) }
     ensures fresh { OnOk result (worn_hit parts.now.tree ≡ None) }
+    ensures checked { IfOk result (λ blocks. IsChecked limits.now.devices limits.now.places parts.now chain.now blocks) }
     ensures tape { D.tape disks.new ≡ D.tape disks.old }
     ensures shape { D.shape disks.new ≡ D.shape disks.old }
     ensures spare { D.spare disks.new ≡ D.spare disks.old }

@@ -12,6 +12,7 @@ ghost use Rattle.zc_damage.specs.Checks.{worn_hit};
 ghost use Rattle.zc_state.specs.State.{State, StandsFor, IsFresh};
 ghost use Rattle.zc_image.specs.Answers.{IsWhole, Answers};
 ghost use Rattle.zc_image.specs.Blocks.{AreBlocksAt};
+ghost use Rattle.zc_image.specs.Checked.{IsChecked};
 ghost use Rattle.zc_image.specs.Found.{state_of, IsAnswer, Finds};
 ghost use Rattle.zc_image.specs.Steps.{catalogue_in, state_in};
 
@@ -48,10 +49,11 @@ pub fn read_pool<D: DiskSet>(alloc: Global, disks: &mut D) -> Result<Found, Imag
     ensures none { IsErrOf result ImageFault.NoPool → IsWhole (D.tape disks.old)
         → AreLimits (D.shape disks.old).devices (D.shape disks.old).places → HasNoRoot (reads (D.tape disks.old)) }
 
-    // Whatever the reads gave, these fit a pool of the disks' size, and the numbers are low.
+    // Whatever the reads gave, these fit a pool of the disks' size, the numbers are low, and the checks of what was found hit nothing.
     ensures places { IfOk result (λ found. ChainPlaces (D.shape disks.old).devices (D.shape disks.old).places found.catalogue) }
     ensures parts { IfOk result (λ found. AreParts (D.shape disks.old).devices (D.shape disks.old).places found.body.group found.body.next_dataset found.parts) }
     ensures fresh { IfOk result (λ found. worn_hit found.parts.tree ≡ None) }
+    ensures checked { IfOk result (λ found. IsChecked (D.shape disks.old).devices (D.shape disks.old).places found.parts found.catalogue found.blocks) }
 
     ensures tape { D.tape disks.new ≡ D.tape disks.old }
     ensures shape { D.shape disks.new ≡ D.shape disks.old }
@@ -102,6 +104,7 @@ fn read_behind<D: DiskSet>(
     ensures there { IfOk result (λ found. ChainPlaces limits.now.devices limits.now.places found.catalogue) }
     ensures parts { IfOk result (λ found. AreParts limits.now.devices limits.now.places body.group body.next_dataset found.parts) }
     ensures fresh { IfOk result (λ found. worn_hit found.parts.tree ≡ None) }
+    ensures checked { IfOk result (λ found. IsChecked limits.now.devices limits.now.places found.parts found.catalogue found.blocks) }
     ensures tape { D.tape disks.new ≡ D.tape disks.old }
     ensures shape { D.shape disks.new ≡ D.shape disks.old }
     ensures spare { D.spare disks.new ≡ D.spare disks.old }

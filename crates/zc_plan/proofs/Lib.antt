@@ -1,3 +1,4 @@
 pub mod CallLaws
+pub mod CountLaws
 pub mod CrashClauses
 pub mod KindLaws

