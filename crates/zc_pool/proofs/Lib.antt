@@ -1,9 +1,6 @@
-pub mod ChosenLaws
-pub mod CommitLaws
-pub mod CreateLaws
-pub mod ImportLaws
-pub mod MeasureLaws
-pub mod RootedLaws
-pub mod SpellLaws
-pub mod TapeLaws
-pub mod WidthLaws
+pub mod EventLaws
+pub mod FoundPool
+pub mod OpeningLaws
+pub mod RunningLaws
+pub mod StartLaws
+pub mod SurvivesLaws

@@ -1,7 +1,6 @@
-pub mod Chosen
-pub mod Committed
-pub mod Created
-pub mod Imported
-pub mod Kept
-pub mod Rooted
-pub mod Spelled
+pub mod Answers
+pub mod Carried
+pub mod Importing
+pub mod Opened
+pub mod Ran
+pub mod Running

@@ -1,32 +1,16 @@
-// A pool over a disk set: how it is made, how it is taken up again, and how a group is committed to it.
+// A pool over a disk set: it is made, taken up, asked, and given back.
 //
-// What stands of a pool is said by its image alone: the root's body, the catalogue that the body names, and the blocks that the
-// catalogue's pointers name. Each change of it is a group. A group takes places that nobody owns, counts the pointers of its tree
-// anew, and spells all of that in its catalogue; then it makes the calls of its plan in their order. So at every moment, within a
-// call too, a crash leaves what stood before the group or what stands after it.
-//
-// Nothing here knows of scripts, nor of where the disks come from.
+// What is asked changes the files in memory and stands in the history (zc_open). A step writes the first group that waits (zc_lane). The
+// theorem over all events stands here: whatever a pool is asked, and wherever its calls are cut short, its history is legal, and a crash
+// leaves the files behind some of the first entries of it, among them every commit that was answered by then.
 #![tactic(auto)]
 
-mod catalogue;
-mod choosing;
-mod committing;
-mod create;
-mod import;
-mod look;
-mod measuring;
-mod root;
-mod size;
-#[cfg(test)]
-mod tests;
-#[cfg(test)]
-mod tests_commit;
-#[cfg(test)]
-mod tests_size;
+mod event;
+mod events;
+mod opening;
+mod pool;
 
-pub use choosing::free_places;
-pub use committing::{CommitFault, commit};
-pub use create::{CreateFault, create_pool};
-pub use import::{ImportFault, Imported, import_pool};
-pub use look::has_root;
-pub use root::Root;
+pub use event::{Event, Progress};
+pub use pool::Pool;
+pub use zc_group::{CreateFault, ImportFault};
+pub use zc_open::Ack;

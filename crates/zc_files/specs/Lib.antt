@@ -1,9 +1,0 @@
-pub mod Changes
-pub mod Copied
-pub mod Following
-pub mod Held
-pub mod Live
-pub mod NewBlocks
-pub mod Opened
-pub mod Same
-pub mod Tracks

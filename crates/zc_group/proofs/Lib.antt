@@ -1,0 +1,9 @@
+pub mod ChosenLaws
+pub mod CommitLaws
+pub mod CreateLaws
+pub mod ImportLaws
+pub mod MeasureLaws
+pub mod RootedLaws
+pub mod SpellLaws
+pub mod TapeLaws
+pub mod WidthLaws

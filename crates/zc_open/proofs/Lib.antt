@@ -1,0 +1,12 @@
+pub mod AckLaws
+pub mod BaseLaws
+pub mod CommitLaws
+pub mod EntryLaws
+pub mod HeardLaws
+pub mod JobLaws
+pub mod JobPlace
+pub mod LeaveLaws
+pub mod PastLaws
+pub mod PointLaws
+pub mod ProgressLaws
+pub mod SinceLaws

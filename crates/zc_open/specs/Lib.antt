@@ -1,0 +1,5 @@
+pub mod Acked
+pub mod Events
+pub mod Heard
+pub mod Points
+pub mod Since

@@ -1,5 +1,0 @@
-use Rattle.zc_pool.proofs.SpellLaws.{block_put}
-use Rattle.zc_pool.proofs.catalogue.put_one.Goals as goal
-
-pub returns : goal.returns
-returns c = block_put c.args.chain.now c.args.index c.args.blocks.now c.push.new.self _ c.args.bytes c.push.result c.requires c.push.ensures.ok
