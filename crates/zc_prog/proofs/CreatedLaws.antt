@@ -1,25 +1,25 @@
 -- What a creation came to, put together from the shelf's calls and the work between them.
-use Rattle.std.proofs.Common.{◌≡◌, ◌≢◌, ◌⊎◌, ℕ, zero, suc, ◌+◌, ◌*◌, ◌<◌, ◌≤◌, Bool, true, false, List, [], ◌∷◌, ◌++◌, length, Result, Ok, Err, IsTrue, OnOk, IfOk, refl, sym, ap, ◌∙◌, subst, inl, inr, ⊎_elim, arith}
-use Rattle.std.specs.Prelude.{IfErr, IsErrOf, is_ok}
+use Rattle.std.proofs.Common.{◌≡◌, ◌≢◌, ◌⊎◌, ℕ, zero, suc, ◌<◌, ◌≤◌, Bool, true, false, List, [], ◌∷◌, ◌++◌, length, Result, Ok, Err, IsTrue, OnOk, IfOk, refl, sym, ap, ◌∙◌, subst, inl, inr, ⊎_elim, arith}
+use Rattle.std.specs.Prelude.{IsErrOf, is_ok}
 use Rattle.std.specs.declared.alloc.AllocError.{AllocError}
 use Rattle.zc_num.specs.Limits.{AreLimits}
 use Rattle.zc_tape.specs.Cause.{Rose, HasCause}
 use Rattle.zc_tape.specs.Tape.{Image, Shape, Tape}
-use Rattle.zc_tape.specs.Crash.{May, EachCrash, AtRest, reads, synced_at, unsynced_at}
+use Rattle.zc_tape.specs.Crash.{May, reads, synced_at, unsynced_at}
 use Rattle.zc_tape.specs.declared.disks.Failed.{Failed}
 use Rattle.zc_tape.proofs.Held.{reads_first, at_rest_first}
-use Rattle.zc_io.specs.Stock.{Stock, Gave, HandsOut, HandsBack, IsHere, handed_out, handed_back}
+use Rattle.zc_io.specs.Stock.{Stock, Gave, HandsOut, HandsBack, handed_out, handed_back}
 use Rattle.zc_root.specs.Root.{slot_of, HasWholeRoots, IsOpenRoot}
 use Rattle.zc_root.specs.declared.body.Body.{Body}
 use Rattle.zc_layout.specs.Standing.{HasNoRoot}
-use Rattle.zc_pool.specs.declared.create.CreateFault.{CreateFault}
-use Rattle.zc_pool.specs.declared.create.CreateFault.TheVariants as create
-use Rattle.zc_pool.specs.Created.{HoldsNothing, LeavesFirst, IsFirst}
-use Rattle.zc_pool.specs.Rooted.{HasRootThere}
+use Rattle.zc_group.specs.declared.create.CreateFault.{CreateFault}
+use Rattle.zc_group.specs.declared.create.CreateFault.TheVariants as create
+use Rattle.zc_group.specs.Created.{HoldsNothing, LeavesFirst, IsFirst}
+use Rattle.zc_group.specs.Rooted.{HasRootThere}
 use Rattle.zc_prog.specs.declared.ended.Ended.{Ended}
 use Rattle.zc_prog.specs.declared.ended.Ended.TheVariants.{Usage, ReadFault, TooLarge, BadLine, Missing, DiskFault, NoPool, Damaged, PoolExists, OtherSize, Played, Created}
 use Rattle.zc_prog.specs.Ended.{MakesAs, LooksAs}
-use Rattle.zc_prog.specs.Pooled.{IsReturn, IsAllBack, GivesBack, HoldsOfGiven, before_calls, IsMadePool, IsMadeAs, IsCreated, CreatesWhole}
+use Rattle.zc_prog.specs.Pooled.{IsReturn, IsAllBack, GivesBack, HoldsOfGiven, before_calls, IsMadeAs, IsCreated, CreatesWhole}
 use Rattle.zc_prog.proofs.Outcome.{rose_within, caused, set_failed, returned, gave_of}
 
 -- ---- the disk set before its calls
@@ -202,7 +202,7 @@ made_later before from now name shape (BadLine line) gave later is = is
 made_later before from now name shape Missing gave later is = is
 made_later before from now name shape NoPool gave later is = is
 made_later before from now name shape (Damaged damage) gave later is = is
-made_later before from now name shape (Played text given) gave later is = is
+made_later before from now name shape (Played text good) gave later is = is
 made_later before from now name shape DiskFault gave later is = rose_within before from now now later is (omega arith)
 made_later before from now name shape PoolExists gave later is = is
 made_later before from now name shape OtherSize gave later is = is
@@ -217,7 +217,7 @@ module _ (old mid new : Stock) (before from now : ℕ) (name : List ℕ) (shape 
   created_one Missing (gave, name_is, back, is) = is
   created_one NoPool (gave, name_is, back, is) = is
   created_one (Damaged damage) (gave, name_is, back, is) = is
-  created_one (Played text given) (gave, name_is, back, is) = is
+  created_one (Played text good) (gave, name_is, back, is) = is
   created_one DiskFault (gave, name_is, back, is) = rose_within before from now now later is (omega arith)
   created_one PoolExists (gave, name_is, back, is) = (gave, record { name_is = name_is; stock = returned old mid new name gave same out back }, is)
   created_one OtherSize (gave, name_is, back, is) = (gave, record { name_is = name_is; stock = returned old mid new name gave same out back }, is)
@@ -241,7 +241,7 @@ module _ (old mid new : Stock) (name : List ℕ) (same : mid.told ≡ old.told) 
   created_same_one before from now shape Missing later is = is
   created_same_one before from now shape NoPool later is = is
   created_same_one before from now shape (Damaged damage) later is = is
-  created_same_one before from now shape (Played text given) later is = is
+  created_same_one before from now shape (Played text good) later is = is
   created_same_one before from now shape DiskFault later is = rose_within before from now now later is (omega arith)
   created_same_one before from now shape PoolExists later (gave, returned_is, is) = (gave, return_same gave returned_is, is)
   created_same_one before from now shape OtherSize later (gave, returned_is, is) = (gave, return_same gave returned_is, is)

@@ -1,31 +1,29 @@
 -- What a run came to on its pool, put together from the shelf's calls and the work between them.
-use Rattle.std.proofs.Common.{◌≡◌, ◌≢◌, ◌⊎◌, ℕ, ◌+◌, ◌≤◌, Bool, true, false, List, [], ◌∷◌, ◌++◌, Result, Ok, Err, Vec, IsTrue, OnOk, IfOk, refl, sym, ap, ◌∙◌, subst, inl, inr, ⊎_elim, arith, cond}
+use Rattle.std.proofs.Common.{◌≡◌, ◌⊎◌, ℕ, ◌≤◌, ◌&&◌, Bool, true, false, List, [], Result, Ok, Err, IsTrue, IfOk, refl, sym, ap, ◌∙◌, subst, inl, inr, ⊎_elim, arith, cond}
 use Rattle.std.specs.Prelude.{IfErr, IsErrOf, is_ok}
-use Rattle.std.specs.declared.alloc.Global.{Global}
 use Rattle.std.specs.declared.alloc.AllocError.{AllocError}
 use Rattle.std.specs.Str.{bytes_eq}
 use Rattle.zc_num.specs.Limits.{AreLimits}
 use Rattle.zc_tape.specs.Cause.{Rose, HasCause}
 use Rattle.zc_tape.specs.Tape.{Image, Shape, Tape}
-use Rattle.zc_tape.specs.Crash.{AtRest, reads}
-use Rattle.zc_tape.proofs.Held.{reads_first, at_rest_first}
+use Rattle.zc_tape.specs.Crash.{reads}
+use Rattle.zc_tape.proofs.Held.{reads_first}
 use Rattle.zc_io.specs.Stock.{Stock, Gave, HandsOut, HandsBack, IsHere, handed_out, handed_back}
-use Rattle.zc_root.specs.Root.{HasWholeRoots, IsOpenRoot, IsRoot}
-use Rattle.zc_pool.specs.Imported.{import_state}
+use Rattle.zc_root.specs.Root.{IsRoot}
+use Rattle.zc_state.specs.Reading.{read_state}
 use Rattle.zc_root.specs.declared.body.Body.{Body}
 use Rattle.zc_layout.specs.Standing.{HasNoRoot}
-use Rattle.zc_command.specs.declared.command.Command.{Command}
 use Rattle.zc_script.specs.declared.act.Line.{Line}
 use Rattle.zc_state.specs.State.{State, StandsFor}
 use Rattle.zc_session.specs.declared.fault.SessionFault.{SessionFault}
 use Rattle.zc_session.specs.declared.fault.SessionFault.TheVariants as session
-use Rattle.zc_session.specs.Played.{commands_of, run_of}
-use Rattle.zc_session.specs.Survives.{Survives}
+use Rattle.zc_session.specs.declared.session.Played.{Played as RunText}
+use Rattle.zc_session.specs.Survives.{SurvivesRun}
 use Rattle.zc_session.specs.Session.{IsPlayed, IsBeforeWrites, IsDamageOf}
 use Rattle.zc_prog.specs.declared.ended.Ended.{Ended}
 use Rattle.zc_prog.specs.declared.ended.Ended.TheVariants.{Usage, ReadFault, TooLarge, BadLine, Missing, DiskFault, NoPool, Damaged, PoolExists, OtherSize, Played, Created}
 use Rattle.zc_prog.specs.Ended.{EndsAs}
-use Rattle.zc_prog.specs.Pooled.{IsReturn, IsAllBack, GivesBack, HoldsOfGiven, IsPlayedAs, IsPooled, SurvivesRun}
+use Rattle.zc_prog.specs.Pooled.{IsAllBack, GivesBack, HoldsOfGiven, IsPlayedAs, IsPooled, SurvivesLines}
 
 -- a count that rose in a part of a call rose in the call
 pub rose_within : (before from to now : ℕ) → before ≤ from → Rose from to → to ≤ now → Rose before now
@@ -88,7 +86,7 @@ played_later before from now name lines (Created given) gave later is = is
 played_later before from now name lines DiskFault gave later is = rose_within before from now now later is (omega arith)
 played_later before from now name lines NoPool gave later is = is
 played_later before from now name lines (Damaged damage) gave later is = is
-played_later before from now name lines (Played text given) gave later is = (is.0, λ not_given. rose_within before from now now later (is.1 not_given) (omega arith), is.2)
+played_later before from now name lines (Played text good) gave later is = (is.0, is.1, λ not_good. rose_within before from now now later (is.2 not_good) (omega arith), is.3)
 
 module _ (old mid new : Stock) (before from now : ℕ) (name : List ℕ) (lines : List Line) (same : mid.told ≡ old.told) (out : HandsOut old mid name) (there : IsHere old name true) (later : before ≤ from) where
   -- what the set came to is what the pool of the name came to
@@ -104,12 +102,22 @@ module _ (old mid new : Stock) (before from now : ℕ) (name : List ℕ) (lines 
   pooled_one DiskFault (gave, name_is, back, is) = rose_within before from now now later is (omega arith)
   pooled_one NoPool (gave, name_is, back, is) = (gave, there, record { name_is = name_is; stock = returned old mid new name gave same out back }, is)
   pooled_one (Damaged damage) (gave, name_is, back, is) = (gave, there, record { name_is = name_is; stock = returned old mid new name gave same out back }, is)
-  pooled_one (Played text given) (gave, name_is, back, is) =
-      (gave, there, record { name_is = name_is; stock = returned old mid new name gave same out back }, played_later before from now name lines (Played text given) gave later is)
+  pooled_one (Played text good) (gave, name_is, back, is) =
+      (gave, there, record { name_is = name_is; stock = returned old mid new name gave same out back }, played_later before from now name lines (Played text good) gave later is)
 
   pub pooled : (r : Result Ended AllocError) → IfOk r (λ ended. GivesBack (IsPlayedAs from now name lines ended) mid new name) → IfOk r (IsPooled old new before now name lines)
   pooled (Ok ended) is = pooled_one ended is
   pooled (Err fault) is = tt
+
+-- what is not good was not done, or not taken back
+either_good : (done ok : Bool) (A : Type 0) → (done ≡ false → A) → (ok ≡ false → A) → (done && ok) ≡ false → A
+either_good true ok A not_done not_ok e = not_ok e
+either_good false ok A not_done not_ok e = not_done refl
+
+-- a set that failed behind its opening makes the shelf's count rise
+cut_here : (old new before now : ℕ) → old ≡ 0 → (new ≡ 0) ⊎ Rose before now → (played : Result RunText SessionFault) → IfOk played (λ (text : RunText). text.good ≡ false → Rose old new) → IfOk played (λ (text : RunText). text.good ≡ false → Rose before now)
+cut_here old new before now none set (Ok text) cut = λ not_good. set_failed old new before now none (cut not_good) set
+cut_here old new before now none set (Err fault) cut = tt
 
 -- the disk set as it is handed back, with the answer to that
 abbrev pub gave_of : List ℕ → Shape → Tape → Bool → Gave
@@ -121,17 +129,23 @@ module _ (name : List ℕ) (lines : List Line) (shape used : Shape) (t u : Tape)
   start_of same = reads_first t fresh ∙ ap (λ (v : Tape). v.start) (sym same)
 
   -- what came of the session is what the run came to
-  played_by : (from now : ℕ) (mid new : Stock) (ok : Bool) (played : Result (Vec ℕ Global) SessionFault) (r : Result Ended AllocError) → EndsAs played ok r
+  played_by : (from now : ℕ) (mid new : Stock) (ok : Bool) (played : Result RunText SessionFault) (r : Result Ended AllocError) → EndsAs played ok r
       → HandsBack mid new (gave_of name used u ok)
-      → IfOk played (λ text. IsPlayed shape u name (commands_of lines) (run_of lines) text.items)
+      → IfOk played (λ (text : RunText). IsPlayed shape u name lines text.text.items text.good)
+      → IfOk played (λ (text : RunText). text.good ≡ false → Rose from now)
       → (IsErrOf played session.NoPool → IsTrue t.told → AreLimits shape.devices shape.places → HasNoRoot (reads t))
       → IfErr played (λ fault. IsTrue t.told → IsDamageOf shape (reads t) fault)
       → IfErr played (λ fault. IsBeforeWrites fault → u ≡ t)
       → (IsErrOf played session.Failed → Rose from now) → (ok ≡ false → Rose from now)
       → IfOk r (λ ended. GivesBack (IsPlayedAs from now name lines ended) mid new name)
-  played_by from now mid new ok (Ok text) r ends back whole none damaged kept failed not_given =
-      rw ends (gave_of name used u ok, refl, back, (refl, not_given, subst (λ (z : Shape). IsPlayed z u name (commands_of lines) (run_of lines) text.items) (sym same_shape) whole))
-  played_by from now mid new ok (Err session.NoPool) r ends back whole none damaged kept failed not_given =
+  played_by from now mid new ok (Ok text) r ends back whole cut none damaged kept failed not_given =
+      rw ends (
+        gave_of name used u ok,
+        refl,
+        back,
+        (text.good, refl, either_good text.good ok (Rose from now) cut not_given, subst (λ (z : Shape). IsPlayed z u name lines text.text.items text.good) (sym same_shape) whole),
+      )
+  played_by from now mid new ok (Err session.NoPool) r ends back whole cut none damaged kept failed not_given =
       rw ends (
         gave_of name used u ok,
         refl,
@@ -141,7 +155,7 @@ module _ (name : List ℕ) (lines : List Line) (shape used : Shape) (t u : Tape)
           λ told limits. subst HasNoRoot (start_of (kept tt)) (none refl (sym same_told ∙ told) (subst (λ (z : Shape). AreLimits z.devices z.places) same_shape limits)),
         ),
       )
-  played_by from now mid new ok (Err (session.Damaged damage)) r ends back whole none damaged kept failed not_given =
+  played_by from now mid new ok (Err (session.Damaged damage)) r ends back whole cut none damaged kept failed not_given =
       rw ends (
         gave_of name used u ok,
         refl,
@@ -153,32 +167,33 @@ module _ (name : List ℕ) (lines : List Line) (shape used : Shape) (t u : Tape)
         ),
       )
     where
-      flat : (image : Image) → IsDamageOf used image (session.Damaged damage) → (body : Body) × IsRoot image body × (import_state used image body ≡ Err damage)
+      flat : (image : Image) → IsDamageOf used image (session.Damaged damage) → (body : Body) × IsRoot image body × (read_state used image body ≡ Err damage)
       flat image (body, both) = (body, both.0, both.1)
-  played_by from now mid new ok (Err session.Failed) r ends back whole none damaged kept failed not_given = rw ends (gave_of name used u ok, refl, back, failed refl)
-  played_by from now mid new ok (Err session.NoMemory) (Ok ended) ends back whole none damaged kept failed not_given = absurd ends
-  played_by from now mid new ok (Err session.NoMemory) (Err fault) ends back whole none damaged kept failed not_given = tt
+  played_by from now mid new ok (Err session.Failed) r ends back whole cut none damaged kept failed not_given = rw ends (gave_of name used u ok, refl, back, failed refl)
+  played_by from now mid new ok (Err session.NoMemory) (Ok ended) ends back whole cut none damaged kept failed not_given = absurd ends
+  played_by from now mid new ok (Err session.NoMemory) (Err fault) ends back whole cut none damaged kept failed not_given = tt
 
   -- the same by the calls' own clauses
-  pub played_as : {T E : Type 0} (from now before_faults after_faults : ℕ) (mid new : Stock) (give : Result T E) (played : Result (Vec ℕ Global) SessionFault) (r : Result Ended AllocError)
+  pub played_as : {T E : Type 0} (from now before_faults after_faults : ℕ) (mid new : Stock) (give : Result T E) (played : Result RunText SessionFault) (r : Result Ended AllocError)
       → EndsAs played (is_ok give) r
       → HandsBack mid new (gave_of name used u (is_ok give))
-      → IfOk played (λ text. IsPlayed shape u name (commands_of lines) (run_of lines) text.items)
+      → IfOk played (λ (text : RunText). IsPlayed shape u name lines text.text.items text.good)
+      → IfOk played (λ (text : RunText). text.good ≡ false → Rose before_faults after_faults)
       → (IsErrOf played session.NoPool → IsTrue t.told → AreLimits shape.devices shape.places → HasNoRoot (reads t))
       → IfErr played (λ fault. IsTrue t.told → IsDamageOf shape (reads t) fault)
       → IfErr played (λ fault. IsBeforeWrites fault → u ≡ t)
       → before_faults ≡ 0 → (IsErrOf played session.Failed → Rose before_faults after_faults) → (after_faults ≡ 0) ⊎ Rose from now → HasCause from now give
       → IfOk r (λ ended. GivesBack (IsPlayedAs from now name lines ended) mid new name)
-  played_as from now before_faults after_faults mid new give played r ends back whole none damaged kept no_faults failed set_faults cause =
-      played_by from now mid new (is_ok give) played r ends back whole none damaged kept (λ e. set_failed before_faults after_faults from now no_faults (failed e) set_faults) (caused from now give cause)
+  played_as from now before_faults after_faults mid new give played r ends back whole cut none damaged kept no_faults failed set_faults cause =
+      played_by from now mid new (is_ok give) played r ends back whole (cut_here before_faults after_faults from now no_faults set_faults played cut) none damaged kept (λ e. set_failed before_faults after_faults from now no_faults (failed e) set_faults) (caused from now give cause)
 
   -- and what a crash leaves of it
-  pub survives_as : (mid new : Stock) (ok : Bool) (run : List Command) → HandsBack mid new (gave_of name used u ok) → (IsTrue t.told → u.start ≡ t.start)
-      → ((s : State) → IsTrue t.told → StandsFor shape (reads t) s → Survives shape u s run) → GivesBack (SurvivesRun run) mid new name
-  survives_as mid new ok run back began survives = (gave_of name used u ok, refl, back, given) where
-    given : SurvivesRun run (gave_of name used u ok)
+  pub survives_as : (mid new : Stock) (ok : Bool) → HandsBack mid new (gave_of name used u ok) → (IsTrue t.told → u.start ≡ t.start)
+      → ((s : State) → IsTrue t.told → StandsFor shape (reads t) s → SurvivesRun shape u s lines) → GivesBack (SurvivesLines lines) mid new name
+  survives_as mid new ok back began survives = (gave_of name used u ok, refl, back, given) where
+    given : SurvivesLines lines (gave_of name used u ok)
     given told s stands =
         let told_before : IsTrue t.told = sym same_told ∙ told in
         let same : u.start ≡ reads t = began told_before ∙ sym (reads_first t fresh) in
-        subst (λ (z : Shape). Survives z u s run) (sym same_shape)
+        subst (λ (z : Shape). SurvivesRun z u s lines) (sym same_shape)
         (survives s told_before (subst (λ (image : Image). StandsFor shape image s) same (subst (λ (z : Shape). StandsFor z u.start s) same_shape stands)))

@@ -1,33 +1,27 @@
 -- What a run came to, put together from its parts; and that a run in which all is in order is played.
-use Rattle.std.proofs.Common.{◌≡◌, ◌⊎◌, ℕ, ◌+◌, ◌<◌, ◌≤◌, Bool, true, false, List, [], ◌∷◌, ◌++◌, length, Option, Some, None, Result, Ok, Err, IfOk, IsTrue, refl, sym, ap, ◌∙◌, subst, inl, inr, ⊎_elim, arith, append-nil}
+use Rattle.std.proofs.Common.{◌≡◌, ◌⊎◌, ℕ, true, false, List, [], ◌∷◌, ◌++◌, Option, Some, None, Result, Ok, Err, IfOk, IsTrue, refl, sym, ap, ◌∙◌, subst, inl, inr, ⊎_elim, arith, append-nil}
 use Rattle.std.specs.List.{All}
 use Rattle.std.specs.declared.alloc.AllocError.{AllocError}
-use Rattle.zc_tape.specs.Cause.{Rose}
 use Rattle.zc_io.specs.Stock.{Stock, Gave}
 use Rattle.zc_io.specs.Stream.{Stream, Keeps}
 use Rattle.zc_script.specs.declared.act.Line.{Line}
-use Rattle.zc_script.specs.declared.scope.Scope.TheVariants.{Small}
 use Rattle.zc_script.specs.Lines.{texts_of, first_bad}
 use Rattle.zc_script.specs.Spelling.{IsActOf}
-use Rattle.zc_script.proofs.SmallLaws.{small_bad_session}
 use Rattle.zc_root.proofs.RootLaws.{one_root}
 use Rattle.zc_damage.specs.declared.damage.Damage.{Damage}
-use Rattle.zc_state.specs.State.{State, StandsFor, IsFresh}
-use Rattle.zc_state.specs.Reading.{◌>>=◌, clear_hit, read_state}
+use Rattle.zc_state.specs.State.{State, StandsFor}
+use Rattle.zc_state.specs.Reading.{read_state}
 use Rattle.zc_state.proofs.ReadLaws.{read_only}
-use Rattle.zc_pool.specs.Imported.{size_hit, import_state}
-use Rattle.zc_session.specs.Played.{run_of}
 use Rattle.zc_session.specs.Session.{AreActs}
 use Rattle.zc_prog.specs.declared.words.Task.{Task}
-use Rattle.zc_prog.specs.declared.words.Task.TheVariants.{Play, Create}
 use Rattle.zc_prog.specs.declared.ended.Ended.{Ended}
 use Rattle.zc_prog.specs.declared.ended.Ended.TheVariants.{Usage, ReadFault, TooLarge, BadLine, Missing, DiskFault, NoPool, Damaged, PoolExists, OtherSize, Played, Created}
 use Rattle.zc_prog.specs.Input.{WasRead}
 use Rattle.zc_prog.specs.Output.{IsReported}
 use Rattle.zc_prog.specs.Ended.{code_of, text_of}
-use Rattle.zc_prog.specs.Words.{task_of, name_in}
-use Rattle.zc_prog.specs.Pooled.{HoldsOfGiven, IsReturn, IsPlayedAs, IsPooled, SurvivesRun}
-use Rattle.zc_prog.specs.Play.{Outside, lines_in, WasPlayed, WasBad, IsCause, IsEnded, IsRunOf, IsRun, SurvivesScript, SurvivesPlay, WasSound, IsOrderly, IsComplete}
+use Rattle.zc_prog.specs.Words.{task_of}
+use Rattle.zc_prog.specs.Pooled.{HoldsOfGiven, IsReturn, IsPlayedAs, IsPooled, SurvivesLines}
+use Rattle.zc_prog.specs.Play.{Outside, lines_in, WasPlayed, IsCause, IsEnded, IsRunOf, IsRun, SurvivesPlay, WasSound, IsOrderly, IsComplete}
 
 -- ---- crashes
 
@@ -36,25 +30,21 @@ pub none_survives : (old new : Outside) (name : List ℕ) → new.stock ≡ old.
 none_survives old new name same told = inl (ap (λ (s : Stock). s.gives) same)
 
 -- what the session says of the set that was handed back, with the script that was read
-pub survives_script : (old new : Outside) (name script : List ℕ) (lines : List Line) → WasRead old.left new.left script → first_bad Small (name ∷ []) (texts_of script) ≡ None → lines ≡ lines_in name script
-    → HoldsOfGiven (SurvivesRun (run_of lines)) old.stock new.stock name → SurvivesPlay old new name
+pub survives_script : (old new : Outside) (name script : List ℕ) (lines : List Line) → WasRead old.left new.left script → first_bad (name ∷ []) (texts_of script) ≡ None → lines ≡ lines_in name script
+    → HoldsOfGiven (SurvivesLines lines) old.stock new.stock name → SurvivesPlay old new name
 survives_script old new name script lines read good same holds told = ⊎_elim
     (λ (none : new.stock.gives ≡ old.stock.gives). inl none)
-    (λ (one : (gave : Gave) × (gave.name ≡ name) × (new.stock.gives ≡ old.stock.gives ++ gave ∷ []) × SurvivesRun (run_of lines) gave).
-    inr (one.0, one.1, one.2, record { script = script; read = read; good = good; survives = subst (λ (l : List Line). SurvivesRun (run_of l) one.0) same one.3 }))
+    (λ (one : (gave : Gave) × (gave.name ≡ name) × (new.stock.gives ≡ old.stock.gives ++ gave ∷ []) × SurvivesLines lines gave).
+    inr (one.0, one.1, one.2, record { script = script; read = read; good = good; survives = subst (λ (l : List Line). SurvivesLines l one.0) same one.3 }))
     (holds told)
 
 -- ---- what a script came to
 
--- the first bad line stands in session 0
-pub first_in_session_0 : (pools texts : List (List ℕ)) (session line : ℕ) → first_bad Small pools texts ≡ Some (session, line) → first_bad Small pools texts ≡ Some (0, line)
-first_in_session_0 pools texts session line is = subst (λ (s : ℕ). first_bad Small pools texts ≡ Some (s, line)) (small_bad_session pools texts session line is) is
-
 -- the lines of a script are acts
-pub acts_are : (name : List ℕ) (lines : List Line) → All (λ (line : Line). IsActOf Small (name ∷ []) line.act) lines → AreActs lines
+pub acts_are : (name : List ℕ) (lines : List Line) → All (λ (line : Line). IsActOf (name ∷ []) line.act) lines → AreActs lines
 acts_are name lines acts = (name ∷ [], acts)
 
-module _ (old new : Outside) (name script : List ℕ) (lines : List Line) (read : WasRead old.left new.left script) (good : first_bad Small (name ∷ []) (texts_of script) ≡ None) (same : lines ≡ lines_in name script) where
+module _ (old new : Outside) (name script : List ℕ) (lines : List Line) (read : WasRead old.left new.left script) (good : first_bad (name ∷ []) (texts_of script) ≡ None) (same : lines ≡ lines_in name script) where
   -- the script was played, and this came of it
   was_played : (ended : Ended) → IsPooled old.stock new.stock old.shelf_faults new.shelf_faults name lines ended → WasPlayed old new name script ended
   was_played ended is = record { read = read; good = good; pooled = subst (λ (l : List Line). IsPooled old.stock new.stock old.shelf_faults new.shelf_faults name l ended) same is }
@@ -71,7 +61,7 @@ module _ (old new : Outside) (name script : List ℕ) (lines : List Line) (read 
   cause_of PoolExists is = is
   cause_of OtherSize is = is
   cause_of (Created given) is = is
-  cause_of (Played text given) is = (script, was_played (Played text given) is)
+  cause_of (Played text good) is = (script, was_played (Played text good) is)
 
   pub played_cause : (r : Result Ended AllocError) → IfOk r (IsPooled old.stock new.stock old.shelf_faults new.shelf_faults name lines) → IfOk r (IsCause old new name)
   played_cause (Ok ended) is = cause_of ended is
@@ -91,18 +81,15 @@ usage_run task old taken taken_after write_faults write_faults_after code none t
 all_read : (old new : Stream) (script : List ℕ) → IsTrue old.told → WasRead old new script → old.bytes ≡ script
 all_read old new script told read = read.given told ∙ ap (λ (rest : List ℕ). script ++ rest) (read.end told) ∙ append-nil script
 
--- a sound pool with low numbers and small files has no damage
+-- a sound pool with low numbers has no damage
 no_damage : (gave : Gave) (damage : Damage) → WasSound gave → IsPlayedAs 0 0 [] [] (Damaged damage) gave → ⊥
-unfolding import_state
 no_damage gave damage sound is =
     let s : State = sound.1.0 in
     let stands : StandsFor gave.shape gave.tape.start s = sound.1.1 in
     let found = is.1 sound.0 in
     let same : s.body ≡ found.0 = one_root gave.tape.start s.body found.0 stands.stands.root found.1 in
     let read : read_state gave.shape gave.tape.start found.0 ≡ Ok s = ap (read_state gave.shape gave.tape.start) (sym same) ∙ read_only gave.shape gave.tape.start s stands.state sound.1.2 stands.stands.holds in
-    let whole : import_state gave.shape gave.tape.start found.0 ≡ Ok s =
-    ap (λ (r : Result State Damage). r >>= λ (x : State). clear_hit (size_hit x.parts.tree) >>= λ _. Ok x) read ∙ ap (λ hit. clear_hit hit >>= λ _. Ok s) sound.1.3 in
-    differ (sym found.2 ∙ whole)
+    differ (sym found.2 ∙ read)
   where
     differ : {x : Damage} {y : State} → ◌≡◌ {A = Result State Damage} (Err x) (Ok y) → ⊥
     differ e = cc
@@ -124,7 +111,7 @@ module _ (old new : Outside) (name : List ℕ) (write_faults write_faults_after 
   played_code ReadFault cause = absurd (orderly.no_read_fault cause.0)
   played_code TooLarge cause = absurd (omega (arith, cause.0 orderly.source_told, orderly.few_bytes))
   played_code (BadLine line) (script, bad) =
-      absurd (none_some (sym (subst (λ (bytes : List ℕ). first_bad Small (name ∷ []) (texts_of bytes) ≡ None) (all_read old.left new.left script orderly.source_told bad.read) orderly.good) ∙ bad.first))
+      absurd (none_some (sym (subst (λ (bytes : List ℕ). first_bad (name ∷ []) (texts_of bytes) ≡ None) (all_read old.left new.left script orderly.source_told bad.read) orderly.good) ∙ bad.first))
     where
       none_some : {bad : ℕ × ℕ} → ◌≡◌ {A = Option (ℕ × ℕ)} None (Some bad) → ⊥
       none_some e = cc
@@ -138,7 +125,7 @@ module _ (old new : Outside) (name : List ℕ) (write_faults write_faults_after 
   played_code OtherSize cause = absurd cause
   played_code (Created given) cause = absurd cause
   played_code (Played text true) cause = refl
-  played_code (Played text false) (script, was) = absurd (orderly.no_shelf_fault (was.pooled.3.1 refl))
+  played_code (Played text false) (script, was) = absurd (orderly.no_shelf_fault (was.pooled.3.2 refl))
 
   -- and the text was reported
   reported_code : (taken taken_after : Stream) (text : List ℕ) (planned code : ℕ) → planned ≡ 0 → IsReported taken taken_after write_faults write_faults_after text planned code → (code ≡ 0) ⊎ (code ≡ 1)

@@ -1,10 +1,8 @@
 -- The size that two words name.
-use Rattle.std.proofs.Common.{◌≡◌, ◌∙◌, ℕ, zero, suc, ◌+◌, ◌*◌, ◌%◌, ◌<◌, ◌≤◌, ◌&&◌, Bool, true, false, true≢false, Option, Some, None, IsTrue, refl, sym, ap, arith, leb, eqb}
+use Rattle.std.proofs.Common.{◌≡◌, ◌∙◌, ℕ, zero, suc, ◌*◌, ◌%◌, ◌<◌, ◌≤◌, Bool, true, false, true≢false, Option, Some, None, refl, sym, ap, arith, leb, eqb}
 use Rattle.std.specs.Prelude.{◌↔◌, IsSome, IfSome}
-use Rattle.std.specs.Option.{option_map}
 use Rattle.std.proofs.lemmas.Bool.{and_parts, and_from, leb-true, le-leb, eqb-true, eq-eqb}
 use Rattle.zc_num.specs.Limits.{AreLimits}
-use Rattle.zc_num.specs.declared.limits.Limits.{Limits}
 use Rattle.zc_script.specs.Pools.{only_if}
 use Rattle.zc_prog.specs.Words.{are_limits}
 

@@ -1,21 +1,21 @@
 -- The status of a run, and its text.
-use Rattle.std.specs.Prelude.{◌≡◌, ℕ, ◌++◌, Bool, true, false, List, [], codes, Result, Ok, Err, OnOk, Vec}
+use Rattle.std.specs.Prelude.{◌≡◌, ℕ, ◌++◌, ◌&&◌, Bool, true, false, List, [], codes, Result, Ok, Err, OnOk}
 use Rattle.std.specs.Fmt.{decimal}
-use Rattle.std.specs.declared.alloc.Global.{Global}
 use Rattle.std.specs.declared.alloc.AllocError.{AllocError}
 use Rattle.hex.specs.Hex.{encode_lower}
 use Rattle.zc_damage.specs.declared.damage.Damage.{Damage}
 use Rattle.zc_damage.specs.declared.damage.DamageKind.{DamageKind}
 use Rattle.zc_damage.specs.declared.damage.DamageKind.TheVariants.{Geometry, Chain, Digest, Catalogue, Worn, Birth, Epoch, Log, Record, Reach, Owner, Block, Tail, Count, Region, Map, Charge}
 use Rattle.zc_tape.specs.declared.disks.Failed.{Failed}
-use Rattle.zc_pool.specs.declared.create.CreateFault.{CreateFault}
-use Rattle.zc_pool.specs.declared.create.CreateFault.TheVariants as create
+use Rattle.zc_group.specs.declared.create.CreateFault.{CreateFault}
+use Rattle.zc_group.specs.declared.create.CreateFault.TheVariants as create
 use Rattle.zc_session.specs.declared.fault.SessionFault.{SessionFault}
 use Rattle.zc_session.specs.declared.fault.SessionFault.TheVariants as session
+use Rattle.zc_session.specs.declared.session.Played.{Played as RunText}
 use Rattle.zc_prog.specs.declared.ended.Ended.{Ended}
 use Rattle.zc_prog.specs.declared.ended.Ended.TheVariants.{Usage, ReadFault, TooLarge, BadLine, Missing, DiskFault, NoPool, Damaged, PoolExists, OtherSize, Played, Created}
 
--- 0, or 6 where the disk set wasn't taken back with Ok
+-- 0, or 6 where not all was good: the last commit failed, or the disk set wasn't taken back with Ok
 abbrev pub given_code : Bool → ℕ
 given_code true = 0
 given_code false = 6
@@ -32,7 +32,7 @@ code_of PoolExists = 9
 code_of TooLarge = 10
 code_of Missing = 11
 code_of OtherSize = 12
-code_of (Played text given) = given_code given
+code_of (Played text good) = given_code good
 code_of (Created given) = given_code given
 
 -- the word of a kind of damage
@@ -83,12 +83,13 @@ text_of name PoolExists = line_of (codes "pool exists " ++ name)
 text_of name TooLarge = line_of (codes "script too large")
 text_of name Missing = line_of (codes "missing " ++ name)
 text_of name OtherSize = line_of (codes "other size " ++ name)
-text_of name (Played text given) = text
+text_of name (Played text good) = text
 text_of name (Created given) = []
 
--- what a run came to, by what came of its session and whether the disk set was taken back with Ok
-abbrev pub EndsAs : Result (Vec ℕ Global) SessionFault → Bool → Result Ended AllocError → Type 0
-EndsAs (Ok text) given result = result ≡ Ok (Played text.items given)
+-- what a run came to, by what came of its session and whether the disk set was taken back with Ok: it was good where its last commit was
+-- done and the set was taken back
+abbrev pub EndsAs : Result RunText SessionFault → Bool → Result Ended AllocError → Type 0
+EndsAs (Ok played) given result = result ≡ Ok (Played played.text.items (played.good && given))
 EndsAs (Err session.NoPool) given result = result ≡ Ok NoPool
 EndsAs (Err (session.Damaged damage)) given result = result ≡ Ok (Damaged damage)
 EndsAs (Err session.Failed) given result = result ≡ Ok DiskFault

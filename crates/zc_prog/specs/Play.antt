@@ -5,11 +5,8 @@ use Rattle.zc_tape.specs.Tape.{Shape}
 use Rattle.zc_io.specs.Stock.{Stock, Gave}
 use Rattle.zc_io.specs.Stream.{Stream, Keeps}
 use Rattle.zc_script.specs.declared.act.Line.{Line}
-use Rattle.zc_script.specs.declared.scope.Scope.TheVariants.{Small}
 use Rattle.zc_script.specs.Lines.{texts_of, first_bad, lines_of}
 use Rattle.zc_state.specs.State.{State, StandsFor, IsFresh}
-use Rattle.zc_pool.specs.Imported.{size_hit}
-use Rattle.zc_session.specs.Played.{run_of}
 use Rattle.zc_prog.specs.declared.words.Task.{Task}
 use Rattle.zc_prog.specs.declared.words.Task.TheVariants.{Play, Create}
 use Rattle.zc_prog.specs.declared.ended.Ended.{Ended}
@@ -18,7 +15,7 @@ use Rattle.zc_prog.specs.Input.{WasRead, most_bytes}
 use Rattle.zc_prog.specs.Output.{IsReported}
 use Rattle.zc_prog.specs.Ended.{code_of, text_of}
 use Rattle.zc_prog.specs.Words.{task_of, name_in}
-use Rattle.zc_prog.specs.Pooled.{IsPooled, IsCreated, SurvivesRun, CreatesWhole, HoldsOfGiven}
+use Rattle.zc_prog.specs.Pooled.{IsPooled, IsCreated, SurvivesLines, CreatesWhole, HoldsOfGiven}
 
 -- the source and the shelf as a run finds or leaves them, with their counts of faults
 pub record Outside : Type 0 where
@@ -27,20 +24,21 @@ pub record Outside : Type 0 where
   pub stock : Stock
   pub shelf_faults : ℕ
 
--- the lines of a script that say something, of which each names this pool
+-- the lines of a script that say something
 abbrev pub lines_in : List ℕ → List ℕ → List Line
-lines_in name script = lines_of Small (name ∷ []) (texts_of script)
+lines_in name script = lines_of (name ∷ []) (texts_of script)
 
 -- the script was read to its end, no line of it is bad, and this came of its lines on the pool
 pub record WasPlayed (old new : Outside) (name script : List ℕ) (ended : Ended) : Type 0 where
   pub read : WasRead old.left new.left script
-  pub good : first_bad Small (name ∷ []) (texts_of script) ≡ None
+  pub good : first_bad (name ∷ []) (texts_of script) ≡ None
   pub pooled : IsPooled old.stock new.stock old.shelf_faults new.shelf_faults name (lines_in name script) ended
 
 -- the script was read to its end, this line is its first bad one, and the shelf is as it was
 pub record WasBad (old new : Outside) (name script : List ℕ) (line : ℕ) : Type 0 where
   pub read : WasRead old.left new.left script
-  pub first : first_bad Small (name ∷ []) (texts_of script) ≡ Some (0, line)
+  pub session : ℕ
+  pub first : first_bad (name ∷ []) (texts_of script) ≡ Some (session, line)
   pub stock : new.stock ≡ old.stock
 
 -- why a run of `play` came to what it came to
@@ -55,7 +53,7 @@ IsCause old new name NoPool = (script : List ℕ) × WasPlayed old new name scri
 IsCause old new name (Damaged damage) = (script : List ℕ) × WasPlayed old new name script (Damaged damage)
 IsCause old new name PoolExists = ⊥
 IsCause old new name OtherSize = ⊥
-IsCause old new name (Played text given) = (script : List ℕ) × WasPlayed old new name script (Played text given)
+IsCause old new name (Played text good) = (script : List ℕ) × WasPlayed old new name script (Played text good)
 IsCause old new name (Created given) = ⊥
 
 -- the words ask nothing: nothing is read and the shelf is as it was
@@ -92,8 +90,8 @@ IsRun words = IsRunOf (task_of words)
 pub record SurvivesScript (old new : Outside) (name : List ℕ) (gave : Gave) : Type 0 where
   pub script : List ℕ
   pub read : WasRead old.left new.left script
-  pub good : first_bad Small (name ∷ []) (texts_of script) ≡ None
-  pub survives : SurvivesRun (run_of (lines_in name script)) gave
+  pub good : first_bad (name ∷ []) (texts_of script) ≡ None
+  pub survives : SurvivesLines (lines_in name script) gave
 
 abbrev pub SurvivesPlay : Outside → Outside → List ℕ → Type 0
 SurvivesPlay old new name = HoldsOfGiven (SurvivesScript old new name) old.stock new.stock name
@@ -107,15 +105,15 @@ SurvivesTask old new (Some (Create name devices places)) = HoldsOfGiven (Creates
 
 -- ---- completeness
 
--- each disk set that was handed back told its tape, and held a sound pool with low numbers and small files as it was handed out
+-- each disk set that was handed back told its tape, and held a sound pool with low numbers as it was handed out
 abbrev pub WasSound : Gave → Type 0
-WasSound gave = IsTrue gave.tape.told × ((s : State) × StandsFor gave.shape gave.tape.start s × IsFresh s × (size_hit s.parts.tree ≡ None))
+WasSound gave = IsTrue gave.tape.told × ((s : State) × StandsFor gave.shape gave.tape.start s × IsFresh s)
 
 -- all is in order for a run of `play`: what is told of the outside, the script, the name, the pool; and nothing failed
 pub record IsOrderly (old new : Outside) (name : List ℕ) (write_faults write_faults_after : ℕ) : Type 0 where
   pub source_told : IsTrue old.left.told
   pub few_bytes : length old.left.bytes ≤ most_bytes
-  pub good : first_bad Small (name ∷ []) (texts_of old.left.bytes) ≡ None
+  pub good : first_bad (name ∷ []) (texts_of old.left.bytes) ≡ None
   pub shelf_told : IsTrue old.stock.told
   pub there : old.stock.here name ≡ true
   pub sound : (gave : Gave) → new.stock.gives ≡ old.stock.gives ++ gave ∷ [] → WasSound gave

@@ -1,22 +1,19 @@
 -- What a run does to its pool on the shelf.
-use Rattle.std.specs.Prelude.{◌≡◌, ◌≢◌, ◌⊎◌, ℕ, ◌∷◌, ◌++◌, Bool, true, false, List, [], Err, IsTrue}
+use Rattle.std.specs.Prelude.{◌≡◌, ◌≢◌, ◌⊎◌, ℕ, ◌∷◌, ◌++◌, ◌&&◌, Bool, true, false, List, [], Err, IsTrue}
 use Rattle.zc_num.specs.Limits.{AreLimits}
 use Rattle.zc_tape.specs.Cause.{Rose}
 use Rattle.zc_tape.specs.Tape.{Shape, Tape}
-use Rattle.zc_tape.specs.Crash.{May, EachCrash, reads}
 use Rattle.zc_io.specs.Stock.{Stock, Gave, handed_out, handed_back, HandsBack, IsHere}
 use Rattle.zc_root.specs.declared.body.Body.{Body}
-use Rattle.zc_root.specs.Root.{IsRoot, IsOpenRoot}
+use Rattle.zc_root.specs.Root.{IsRoot}
 use Rattle.zc_layout.specs.Standing.{HasNoRoot}
 use Rattle.zc_damage.specs.declared.damage.Damage.{Damage}
-use Rattle.zc_command.specs.declared.command.Command.{Command}
 use Rattle.zc_script.specs.declared.act.Line.{Line}
 use Rattle.zc_state.specs.State.{State, StandsFor}
-use Rattle.zc_pool.specs.Created.{IsFirst, LeavesFirst}
-use Rattle.zc_pool.specs.Imported.{import_state}
-use Rattle.zc_pool.specs.Rooted.{HasRootThere}
-use Rattle.zc_session.specs.Played.{commands_of, run_of}
-use Rattle.zc_session.specs.Survives.{Survives}
+use Rattle.zc_group.specs.Created.{IsFirst, LeavesFirst}
+use Rattle.zc_state.specs.Reading.{read_state}
+use Rattle.zc_group.specs.Rooted.{HasRootThere}
+use Rattle.zc_session.specs.Survives.{SurvivesRun}
 use Rattle.zc_session.specs.Session.{IsPlayed}
 use Rattle.zc_prog.specs.declared.ended.Ended.{Ended}
 use Rattle.zc_prog.specs.declared.ended.Ended.TheVariants.{Usage, ReadFault, TooLarge, BadLine, Missing, DiskFault, NoPool, Damaged, PoolExists, OtherSize, Played, Created}
@@ -42,7 +39,7 @@ HoldsOfGiven P old new name = IsTrue old.told → (new.gives ≡ old.gives) ⊎ 
 
 -- the disk set holds a pool of this damage
 abbrev pub HasDamage : Shape → Tape → Damage → Type 0
-HasDamage shape u damage = IsTrue u.told → (body : Body) × IsRoot u.start body × (import_state shape u.start body ≡ Err damage)
+HasDamage shape u damage = IsTrue u.told → (body : Body) × IsRoot u.start body × (read_state shape u.start body ≡ Err damage)
 
 -- what a run of the lines on a disk set came to, by the set as it was handed back and by the counts of faults of the shelf
 abbrev pub IsPlayedAs : ℕ → ℕ → List ℕ → List Line → Ended → Gave → Type 0
@@ -60,9 +57,9 @@ IsPlayedAs before now name lines DiskFault gave = Rose before now
 IsPlayedAs before now name lines NoPool gave = (gave.tape.calls ≡ []) × (IsTrue gave.tape.told → AreLimits gave.shape.devices gave.shape.places → HasNoRoot gave.tape.start)
 -- the pool is damaged; no call was made
 IsPlayedAs before now name lines (Damaged damage) gave = (gave.tape.calls ≡ []) × HasDamage gave.shape gave.tape damage
--- the script was played on the pool that was found there
-IsPlayedAs before now name lines (Played text given) gave =
-    (gave.ok ≡ given) × (given ≡ false → Rose before now) × IsPlayed gave.shape gave.tape name (commands_of lines) (run_of lines) text
+-- the script was played on the pool that was found there; it was good where its last commit was done and the set was taken back
+IsPlayedAs before now name lines (Played text good) gave =
+    (done : Bool) × (good ≡ (done && gave.ok)) × (good ≡ false → Rose before now) × IsPlayed gave.shape gave.tape name lines text done
 
 -- the name was there, and its disk set was handed back with this
 abbrev pub IsPooledWith : Stock → Stock → List ℕ → (Gave → Type 0) → Type 0
@@ -83,12 +80,12 @@ IsPooled old new before now name lines OtherSize = ⊥
 IsPooled old new before now name lines (Created given) = ⊥
 IsPooled old new before now name lines NoPool = IsPooledWith old new name (IsPlayedAs before now name lines NoPool)
 IsPooled old new before now name lines (Damaged damage) = IsPooledWith old new name (IsPlayedAs before now name lines (Damaged damage))
-IsPooled old new before now name lines (Played text given) = IsPooledWith old new name (IsPlayedAs before now name lines (Played text given))
+IsPooled old new before now name lines (Played text good) = IsPooledWith old new name (IsPlayedAs before now name lines (Played text good))
 
--- a crash at any moment since a sound disk set was handed out leaves the pool behind a prefix of the run that holds each commit that was
--- answered by then
-abbrev pub SurvivesRun : List Command → Gave → Type 0
-SurvivesRun run gave = IsTrue gave.tape.told → (s : State) → StandsFor gave.shape gave.tape.start s → Survives gave.shape gave.tape s run
+-- a crash at any moment since a sound disk set was handed out leaves the files behind some first entries of the run's history, among which is
+-- each commit that was answered by then
+abbrev pub SurvivesLines : List Line → Gave → Type 0
+SurvivesLines lines gave = IsTrue gave.tape.told → (s : State) → StandsFor gave.shape gave.tape.start s → SurvivesRun gave.shape gave.tape s lines
 
 -- ---- the creation of a pool
 

@@ -31,8 +31,8 @@ pub enum Ended {
     PoolExists,
     /// The disk set has another size, and holds no pool.
     OtherSize,
-    /// The script was played; and whether the disk set was taken back with Ok.
-    Played { text: Bytes, given: bool },
+    /// The script was played; and whether its last commit was done and the disk set was taken back with Ok.
+    Played { text: Bytes, good: bool },
     /// The pool was made; and whether the disk set was taken back with Ok.
     Created { given: bool },
 }
@@ -59,7 +59,7 @@ pub fn code_of(ended: &Ended) -> u8
         Ended::TooLarge => 10,
         Ended::Missing => 11,
         Ended::OtherSize => 12,
-        Ended::Played { text: _, given } => given_code(*given),
+        Ended::Played { text: _, good } => given_code(*good),
         Ended::Created { given } => given_code(*given),
     }
 }
@@ -178,7 +178,7 @@ pub fn text_of(alloc: Global, name: &[u8], ended: Ended) -> Result<Vec<u8>, NoMe
         Ended::TooLarge => line_with_name(alloc, b"script too large", b""),
         Ended::Missing => line_with_name(alloc, b"missing ", name),
         Ended::OtherSize => line_with_name(alloc, b"other size ", name),
-        Ended::Played { text, given: _ } => Ok(text.into_vec()),
+        Ended::Played { text, good: _ } => Ok(text.into_vec()),
         Ended::Created { given: _ } => Ok(Vec::new(alloc)),
     }
 }

@@ -9,15 +9,15 @@ ghost use Rattle.zc_io.specs.Stock.{IsFresh, IsHere};
 ghost use Rattle.zc_root.specs.Root.{IsOpenRoot, HasWholeRoots};
 ghost use Rattle.zc_root.specs.declared.body.Body.{Body as BodyOf};
 ghost use Rattle.zc_layout.specs.Standing.{HasNoRoot};
-ghost use Rattle.zc_pool.specs.Created.{HoldsNothing, LeavesFirst, IsFirst};
+ghost use Rattle.zc_group.specs.Created.{HoldsNothing, LeavesFirst, IsFirst};
 ghost use Rattle.zc_prog.specs.Ended.{MakesAs, LooksAs};
 ghost use Rattle.zc_prog.specs.Pooled.{IsAllBack, GivesBack, HoldsOfGiven, IsMadeAs, IsCreated, CreatesWhole};
 
 use crate::ended::Ended;
 use std::alloc::{AllocError, Global};
+use zc_group::{CreateFault, create_pool, has_root};
 use zc_io::{Shelf, ShelfFault};
 use zc_num::{Name, NoMemory};
-use zc_pool::{CreateFault, create_pool, has_root};
 use zc_tape::{DiskSet, Failed};
 
 // Makes the pool on a disk set; the set, and what came of it.

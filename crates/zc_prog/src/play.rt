@@ -1,7 +1,6 @@
 // The top call: a run of the program over any source, sink and shelf.
 ghost use Rattle.std.specs.Prelude.{◌≡◌, ◌≤◌, ◌⊎◌, ◌∷◌, map, string_bytes, Some, None, [], length, All, IfOk, IfErr, OnOk};
 ghost use Rattle.zc_io.specs.Stream.{Keeps};
-ghost use Rattle.zc_script.specs.declared.scope.Scope.TheVariants.{Small};
 ghost use Rattle.zc_script.specs.Spelling.{IsActOf};
 ghost use Rattle.zc_script.specs.Lines.{texts_of, first_bad, IsScriptFault};
 ghost use Rattle.zc_prog.specs.Words.{task_of, pool_of, HasLimits};
@@ -30,21 +29,21 @@ pub struct Status {
 // The lines of a script of which each names the pool.
 fn lines_of(alloc: Global, name: &Name, script: &[u8]) -> Result<Listed<Line>, ScriptFault>
     ensures ok { IfOk result (λ lines. lines ≡ lines_in name.now script.now) }
-    ensures acts { IfOk result (λ lines. All (λ line. IsActOf Small (name.now ∷ []) line.act) lines) }
+    ensures acts { IfOk result (λ lines. All (λ line. IsActOf (name.now ∷ []) line.act) lines) }
     ensures few { IfOk result (λ lines. length lines ≤ length script.now) }
-    ensures good { OnOk result (first_bad Small (name.now ∷ []) (texts_of script.now) ≡ None) }
-    ensures bad { IfErr result (λ fault. IsScriptFault fault (first_bad Small (name.now ∷ []) (texts_of script.now))) }
+    ensures good { OnOk result (first_bad (name.now ∷ []) (texts_of script.now) ≡ None) }
+    ensures bad { IfErr result (λ fault. IsScriptFault fault (first_bad (name.now ∷ []) (texts_of script.now))) }
 {
     let pool = match name.clone() {
         Ok(pool) => pool,
         Err(_) => return Err(ScriptFault::NoMemory),
     };
-    let read = zc_script::read_small_script(alloc, script, &[pool])?;
+    let read = zc_script::read_script(alloc, script, &[pool])?;
     Ok(read.lines)
 }
 
 // Reads a script and plays it on the pool of a name.
-#[tactic(auto, using(crate::proofs::RunLaws::acts_are, crate::proofs::RunLaws::first_in_session_0, crate::proofs::RunLaws::none_survives, crate::proofs::RunLaws::survives_script, crate::proofs::RunLaws::played_cause))]
+#[tactic(auto, using(crate::proofs::RunLaws::acts_are, crate::proofs::RunLaws::none_survives, crate::proofs::RunLaws::survives_script, crate::proofs::RunLaws::played_cause))]
 fn play_script<S: Source, H: Shelf>(
     alloc: Global,
     name: &Name,
@@ -158,7 +157,7 @@ fn run_and_tell<S: Source, K: Sink, H: Shelf>(
 ///
 /// | Status | Comes |
 /// |---|---|
-/// | 0 | the script was played or the pool was made, and the disk set was taken back |
+/// | 0 | the script was played and its last commit done, or the pool was made, and the disk set was taken back |
 /// | 1 | want of memory |
 /// | 2 | exactly where the words are none of these |
 /// | 3 | exactly where the script has a bad line |
@@ -187,8 +186,8 @@ pub fn play<S: Source, K: Sink, H: Shelf>(
     // Every disk set that was taken or made was handed back, whatever the status.
     ensures given_back { IsAllBack (H.stock shelf.old) (H.stock shelf.new) }
 
-    // A crash at any moment since the disk set was handed out leaves the pool behind a prefix of the script that holds every commit
-    // that was answered by then; a creation is whole or not at all. Whatever the status.
+    // A crash at any moment since the disk set was handed out leaves the files behind some first entries of the run's history, among
+    // which is every commit that was answered by then; a creation is whole or not at all. Whatever the status.
     ensures survives { SurvivesTask
         (record { left = S.left source.old; read_faults = S.faults source.old; stock = H.stock shelf.old; shelf_faults = H.faults shelf.old })
         (record { left = S.left source.new; read_faults = S.faults source.new; stock = H.stock shelf.new; shelf_faults = H.faults shelf.new })

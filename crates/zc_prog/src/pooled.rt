@@ -1,26 +1,25 @@
 // A script's lines, played on the pool of a name: taken, played on, and given back.
 ghost use Rattle.std.specs.Prelude.{◌≡◌, ◌^◌, ◌<◌, ◌≤◌, length, IfOk};
 ghost use Rattle.zc_io.specs.Stock.{IsFresh};
-ghost use Rattle.zc_session.specs.Played.{run_of};
 ghost use Rattle.zc_session.specs.Session.{AreActs};
 ghost use Rattle.zc_prog.specs.Ended.{EndsAs};
-ghost use Rattle.zc_prog.specs.Pooled.{IsAllBack, GivesBack, HoldsOfGiven, IsPlayedAs, IsPooled, SurvivesRun};
+ghost use Rattle.zc_prog.specs.Pooled.{IsAllBack, GivesBack, HoldsOfGiven, IsPlayedAs, IsPooled, SurvivesLines};
 
 use crate::ended::Ended;
 use std::alloc::{AllocError, Global};
 use zc_io::{Shelf, ShelfFault};
 use zc_num::{Bytes, Listed, Name, NoMemory};
 use zc_script::Line;
-use zc_session::{SessionFault, play_on};
+use zc_session::{Played, SessionFault, play_on};
 
 // What a run came to, once its disk set was handed back.
-fn ended_of(played: Result<Vec<u8>, SessionFault>, given: bool) -> Result<Ended, NoMemory>
+fn ended_of(played: Result<Played, SessionFault>, given: bool) -> Result<Ended, NoMemory>
     ensures { EndsAs played given result }
 {
     match played {
-        Ok(text) => Ok(Ended::Played {
+        Ok(Played { text, good }) => Ok(Ended::Played {
             text: Bytes::from_vec(text),
-            given,
+            good: good && given,
         }),
         Err(SessionFault::NoPool) => Ok(Ended::NoPool),
         Err(SessionFault::Damaged { damage }) => Ok(Ended::Damaged { damage }),
@@ -44,7 +43,7 @@ fn play_taken<H: Shelf>(
     ensures told { (H.stock shelf.new).told ≡ (H.stock shelf.old).told }
     ensures played { IfOk result (λ ended. GivesBack (IsPlayedAs (H.faults shelf.old) (H.faults shelf.new) name.now lines ended)
         (H.stock shelf.old) (H.stock shelf.new) name.now) }
-    ensures survives { GivesBack (SurvivesRun (run_of lines)) (H.stock shelf.old) (H.stock shelf.new) name.now }
+    ensures survives { GivesBack (SurvivesLines lines) (H.stock shelf.old) (H.stock shelf.new) name.now }
     ensures later { H.faults shelf.old ≤ H.faults shelf.new }
 {
     let (disks, played) = play_on(alloc, disks, name.bytes(), lines);
@@ -68,7 +67,7 @@ pub fn play_pool<H: Shelf>(
     ensures told { (H.stock shelf.new).told ≡ (H.stock shelf.old).told }
     ensures pooled { IfOk result (IsPooled (H.stock shelf.old) (H.stock shelf.new) (H.faults shelf.old) (H.faults shelf.new) name.now lines) }
     ensures given_back { IsAllBack (H.stock shelf.old) (H.stock shelf.new) }
-    ensures survives { HoldsOfGiven (SurvivesRun (run_of lines)) (H.stock shelf.old) (H.stock shelf.new) name.now }
+    ensures survives { HoldsOfGiven (SurvivesLines lines) (H.stock shelf.old) (H.stock shelf.new) name.now }
     ensures later { H.faults shelf.old ≤ H.faults shelf.new }
 {
     match shelf.take(name) {

@@ -135,8 +135,8 @@ fn refuses_bad_words_bad_lines_and_a_missing_name(rt: HostRuntime) -> Result<(),
     }
     let later = play_tank(alloc, b"commit tank\n#\nfrob tank\n", &mut shelf)?;
     expect(&rt, &later, 3, b"bad line 3\n");
-    let long = play_tank(alloc, b"write tank/d/f 3999 6161\n", &mut shelf)?;
-    expect(&rt, &long, 3, b"bad line 1\n");
+    let odd = play_tank(alloc, b"session 3\nwrite tank/d/f 0 616\n", &mut shelf)?;
+    expect(&rt, &odd, 3, b"bad line 2\n");
     let missing = play_tank(alloc, FIRST, &mut shelf)?;
     expect(&rt, &missing, 11, b"missing tank\n");
     Ok(())
@@ -391,7 +391,50 @@ fn with_failing(
     Ok(copy)
 }
 
-// The calls of the run: 4 reads, then those of `keeps_a_prefix_at_every_moment`.
+// The text of the first script where this call failed, counted from the first write or sync: in its commit, or in the last one.
+fn failed_text(alloc: Global, call: u64) -> Result<Vec<u8>, Fail> {
+    let front = "ok\nok\nok\nok 5\ndata 68656c6c6f\ndata -\n";
+    let text = if call < 15 {
+        format!(in alloc; "{front}EIO call {call}\nend tank EIO call {call}\n")?
+    } else {
+        format!(in alloc; "{front}ok\nend tank EIO call {call}\n")?
+    };
+    Ok(Vec::from_slice(alloc, text.as_bytes())?)
+}
+
+// The calls of the run: 4 reads, then those of `keeps_a_prefix_at_every_moment`: a call of the claim group ends the run, and one of
+// another group is told by the commit.
+fn tell_failing(
+    rt: &impl Abort,
+    alloc: Global,
+    made: &mut MemoryDisks,
+    failing: u64,
+) -> Result<(), Fail> {
+    let name = tank(alloc)?;
+    let disks = with_failing(rt, alloc, made, failing)?;
+    let mut shelf = shelf_with(rt, alloc, &name, disks)?;
+    let first = play_tank(alloc, FIRST, &mut shelf)?;
+    if failing < 11 {
+        expect(rt, &first, 6, b"disk fault tank\n");
+    } else {
+        expect(rt, &first, 6, &failed_text(alloc, failing - 4)?);
+    }
+
+    // The set that was given back holds what was committed, and is played on.
+    let later = play_tank(alloc, b"read tank/d/f 0 9\n", &mut shelf)?;
+    let text: &[u8] = if failing < 10 {
+        b"ENOENT dataset\nend tank group 3\n"
+    } else if failing < 18 {
+        b"ENOENT dataset\nend tank group 4\n"
+    } else if failing < 25 {
+        b"data 68656c6c6f\nend tank group 5\n"
+    } else {
+        b"data 68656c6c6f\nend tank group 6\n"
+    };
+    expect(rt, &later, 0, text);
+    Ok(())
+}
+
 #[test]
 fn tells_each_failing_call_of_disks_that_are_played_on(rt: HostRuntime) -> Result<(), Fail> {
     let alloc = rt.alloc();
@@ -402,23 +445,43 @@ fn tells_each_failing_call_of_disks_that_are_played_on(rt: HostRuntime) -> Resul
     };
     let mut made = left_at(&rt, alloc, disks, disks.calls(), Keep::New)?;
     for failing in 1..26u64 {
-        let disks = with_failing(&rt, alloc, &mut made, failing)?;
-        let mut shelf = shelf_with(&rt, alloc, &name, disks)?;
-        let first = play_tank(alloc, FIRST, &mut shelf)?;
-        expect(&rt, &first, 6, b"disk fault tank\n");
+        tell_failing(&rt, alloc, &mut made, failing)?;
+    }
+    Ok(())
+}
 
-        // The set that was given back holds what was committed, and is played on.
-        let later = play_tank(alloc, b"read tank/d/f 0 9\n", &mut shelf)?;
-        let text: &[u8] = if failing < 10 {
-            b"ENOENT dataset\nend tank group 3\n"
-        } else if failing < 18 {
-            b"ENOENT dataset\nend tank group 4\n"
-        } else if failing < 25 {
-            b"data 68656c6c6f\nend tank group 5\n"
-        } else {
-            b"data 68656c6c6f\nend tank group 6\n"
-        };
-        expect(&rt, &later, 0, text);
+// Each row is a script and its text, on a pool that was just made.
+const ROWS: [(&[u8], &[u8]); 4] = [
+    (
+        b"mkds tank/d\ncreate tank/d/f\ncreate tank/d/g\nfill tank/d/f 0 2097152 1\nfill tank/d/g 0 1 1\n\
+            fill tank/d/f 2097152 1 1\nmkds tank/e\ncreate tank/e/x\nfill tank/e/x 0 770048 1\nfill tank/e/x 770048 1 1\n",
+        b"ok\nok\nok\nok 2097152\nENOSPC pointers 513 of 512\nEFBIG 2097153 of 2097152\nok\nok\nok 770048\n\
+            ENOSPC charge 701 of 700\nend tank group 3\n",
+    ),
+    (
+        b"mkds tank/d\ncreate tank/d/f\ncreate tank/d/g\nfill tank/d/f 0 5000 65\ntruncate tank/d/f 4100\n\
+            truncate tank/d/f 5000\nread tank/d/f 4098 4\nstat tank/d/f\n",
+        b"ok\nok\nok\nok 5000\nok\nok\ndata 41410000\nsize 5000 blocks 2\nend tank group 3\n",
+    ),
+    (
+        b"mkds tank/d\ncreate tank/d/f\ncreate tank/d/g\nmkds tank/d\ncreate tank/x/f\nmount tank/d\nremove tank/d/h\n\
+            read tank/d/f 0 65537\nrmds tank/d\nstat tank/d/f\n",
+        b"ok\nok\nok\nEEXIST\nENOENT dataset\nEBUSY mounted\nENOENT file\nEINVAL length\nok\nENOENT dataset\n\
+            end tank group 3\n",
+    ),
+    (
+        b"commit vault\nsession 5\nmkds tank/d\nstat cellar/d/f\ncommit tank\n",
+        b"ENXIO pool\nok\nENXIO pool\nok\nend tank group 4\n",
+    ),
+];
+
+#[test]
+fn plays_rows_on_a_fresh_pool(rt: HostRuntime) -> Result<(), Fail> {
+    let alloc = rt.alloc();
+    for (script, text) in &ROWS {
+        let mut shelf = fresh(&rt, alloc)?;
+        let played = play_tank(alloc, script, &mut shelf)?;
+        expect(&rt, &played, 0, text);
     }
     Ok(())
 }

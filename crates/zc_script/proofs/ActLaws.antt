@@ -1,8 +1,7 @@
--- What the acts of a script are, by its scope.
+-- What the acts of a script are.
 use Rattle.std.proofs.Common.{◌≡◌, ℕ, ◌+◌, Bool, true, false, List, [], ◌∷◌, Option, Some, None, refl, ap, subst, cond}
 use Rattle.std.specs.List.{All, AllByRecursion}
 use Rattle.std.proofs.lemmas.List.Elements.{All-from_recursion}
-use Rattle.std.proofs.lemmas.Option.{cond_some}
 use Rattle.hex.proofs.HexLemmas.{decode_of-ok}
 use Rattle.zc_command.specs.declared.command.Command.{Command}
 use Rattle.zc_command.specs.declared.command.Command.TheVariants.{Mkds, Rmds, Mount, Create, Remove, Write, Fill, Truncate, Read, Stat, Commit}
@@ -10,14 +9,10 @@ use Rattle.zc_script.specs.declared.act.Act.{Act}
 use Rattle.zc_script.specs.declared.act.Said.{Said}
 use Rattle.zc_script.specs.declared.act.Said.TheVariants.{Session, Does}
 use Rattle.zc_script.specs.declared.act.Line.{Line}
-use Rattle.zc_script.specs.declared.scope.Scope.{Scope}
-use Rattle.zc_script.specs.declared.scope.Scope.TheVariants.{Small, Whole}
-use Rattle.zc_script.specs.Pools.{only_if, pool_at}
-use Rattle.zc_script.specs.Words.{◌>>=◌}
+use Rattle.zc_script.specs.Pools.{pool_at}
 use Rattle.zc_script.specs.Forms.{act_at, said_of}
-use Rattle.zc_script.specs.Scopes.{has_act, has_line}
-use Rattle.zc_script.specs.Spelling.{SpellsCommand, SpellsAct, HasLine, IsOf, IsActOf}
-use Rattle.zc_script.specs.Lines.{is_ignored, heard, said, next_session, with_line, lines_from, lines_of}
+use Rattle.zc_script.specs.Spelling.{SpellsCommand, SpellsAct, HasLine, IsActOf}
+use Rattle.zc_script.specs.Lines.{is_ignored, said, next_session, with_line, lines_from, lines_of}
 use Rattle.zc_script.proofs.ReadLaws.{read_is_spelled}
 
 -- a command that a line spells is one that a line can spell
@@ -50,60 +45,38 @@ spelled_has_line line pool (Stat dataset file) s =
 spelled_has_line line pool Commit s = record { conditions = record { numbers = tt; names = tt }; fits = tt }
 
 -- a command of the pool that was looked for, by what was found
-found_of : (pools : List (List ℕ)) (pool : List ℕ) (command : Command) (found : Option ℕ) → pool_at pools pool ≡ found → HasLine command → IsOf pools (act_at found command)
+found_of : (pools : List (List ℕ)) (pool : List ℕ) (command : Command) (found : Option ℕ) → pool_at pools pool ≡ found → HasLine command → IsActOf pools (act_at found command)
 found_of pools pool command (Some at) is has = ((pool, is), has)
 found_of pools pool command None is has = tt
 
 -- an act that a line spells is of the pools
-spelled_is_of : (pools : List (List ℕ)) (line : List ℕ) (act : Act) → SpellsAct pools line act → IsOf pools act
+spelled_is_of : (pools : List (List ℕ)) (line : List ℕ) (act : Act) → SpellsAct pools line act → IsActOf pools act
 spelled_is_of pools line act s =
-    subst (λ (a : Act). IsOf pools a) s.act_is
+    subst (λ (a : Act). IsActOf pools a) s.act_is
     (found_of pools s.pool s.command (pool_at pools s.pool) refl (spelled_has_line line s.pool s.command s.spelled))
-
--- a line asks for an act exactly where the act is of the scope
-act_in_scope : (scope : Scope) (act : Act) → has_line scope (Does act) ≡ true → has_act scope act ≡ true
-act_in_scope Small act h = h
-act_in_scope Whole act h = refl
-
--- what is heard was said, and is of the scope
-heard_is : (scope : Scope) (pools : List (List ℕ)) (text : List ℕ) (o : Option Said) (a : Said) → (o >>= (λ said. only_if (has_line scope said) said)) ≡ Some a → (o ≡ Some a) × (has_line scope a ≡ true)
-heard_is scope pools text (Some b) a h =
-    let found = cond_some (has_line scope b) b a h in
-    let same = found.1 in
-    (ap Some same, subst (λ (s : Said). has_line scope s ≡ true) same found.0)
-heard_is scope pools text None a h = cc h
-
--- an act that is heard is of the scope and the pools
-heard_act : (scope : Scope) (pools : List (List ℕ)) (text : List ℕ) (act : Act) → heard scope pools text ≡ Some (Does act) → IsActOf scope pools act
-unfolding heard
-heard_act scope pools text act h =
-    let parts = heard_is scope pools text (said_of pools text) (Does act) h in record {
-      in_scope = act_in_scope scope act parts.1;
-      act_is = spelled_is_of pools text act (read_is_spelled pools text (Does act) parts.0);
-    }
 
 -- what came where a test failed
 behind_no : {A : Type 0} (test : Bool) (o : Option A) (y : A) → cond test None o ≡ Some y → o ≡ Some y
 behind_no true o y h = cc h
 behind_no false o y h = h
 
--- An act that a line asks for is of the scope and the pools.
-pub said_act : (scope : Scope) (pools : List (List ℕ)) (text : List ℕ) (act : Act) → said scope pools text ≡ Some (Does act) → IsActOf scope pools act
-said_act scope pools text act h = heard_act scope pools text act (behind_no (is_ignored text) (heard scope pools text) (Does act) h)
+-- An act that a line asks for is of the pools.
+pub said_act : (pools : List (List ℕ)) (text : List ℕ) (act : Act) → said pools text ≡ Some (Does act) → IsActOf pools act
+said_act pools text act h = spelled_is_of pools text act (read_is_spelled pools text (Does act) (behind_no (is_ignored text) (said_of pools text) (Does act) h))
 
 -- one line more
-with_of : (scope : Scope) (pools : List (List ℕ)) (session n : ℕ) (o : Option Said) (lines : List Line) → ((act : Act) → o ≡ Some (Does act) → IsActOf scope pools act)
-    → AllByRecursion (λ (line : Line). IsActOf scope pools line.act) lines → AllByRecursion (λ (line : Line). IsActOf scope pools line.act) (with_line session n o lines)
-with_of scope pools session n None lines are all = all
-with_of scope pools session n (Some (Session next)) lines are all = all
-with_of scope pools session n (Some (Does act)) lines are all = (are act refl, all)
+with_of : (pools : List (List ℕ)) (session n : ℕ) (o : Option Said) (lines : List Line) → ((act : Act) → o ≡ Some (Does act) → IsActOf pools act)
+    → AllByRecursion (λ (line : Line). IsActOf pools line.act) lines → AllByRecursion (λ (line : Line). IsActOf pools line.act) (with_line session n o lines)
+with_of pools session n None lines are all = all
+with_of pools session n (Some (Session next)) lines are all = all
+with_of pools session n (Some (Does act)) lines are all = (are act refl, all)
 
-acts_from : (scope : Scope) (pools : List (List ℕ)) (session n : ℕ) (texts : List (List ℕ)) → AllByRecursion (λ (line : Line). IsActOf scope pools line.act) (lines_from scope pools session n texts)
-acts_from scope pools session n [] = tt
-acts_from scope pools session n (text ∷ texts) =
-    with_of scope pools session n (said scope pools text) (lines_from scope pools (next_session session (said scope pools text)) (n + 1) texts)
-    (said_act scope pools text) (acts_from scope pools (next_session session (said scope pools text)) (n + 1) texts)
+acts_from : (pools : List (List ℕ)) (session n : ℕ) (texts : List (List ℕ)) → AllByRecursion (λ (line : Line). IsActOf pools line.act) (lines_from pools session n texts)
+acts_from pools session n [] = tt
+acts_from pools session n (text ∷ texts) =
+    with_of pools session n (said pools text) (lines_from pools (next_session session (said pools text)) (n + 1) texts)
+    (said_act pools text) (acts_from pools (next_session session (said pools text)) (n + 1) texts)
 
--- The acts of a script's lines are of the scope and the pools.
-pub acts_are_of : (scope : Scope) (pools texts : List (List ℕ)) → All (λ (line : Line). IsActOf scope pools line.act) (lines_of scope pools texts)
-acts_are_of scope pools texts = All-from_recursion (λ (line : Line). IsActOf scope pools line.act) (lines_of scope pools texts) (acts_from scope pools 0 1 texts)
+-- The acts of a script's lines are of the pools.
+pub acts_are_of : (pools texts : List (List ℕ)) → All (λ (line : Line). IsActOf pools line.act) (lines_of pools texts)
+acts_are_of pools texts = All-from_recursion (λ (line : Line). IsActOf pools line.act) (lines_of pools texts) (acts_from pools 0 1 texts)

@@ -6,5 +6,4 @@ pub mod Numerals
 pub mod PieceLaws
 pub mod PoolLaws
 pub mod ReadLaws
-pub mod SmallLaws
 pub mod SpellingLaws

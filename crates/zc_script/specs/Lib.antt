@@ -1,6 +1,5 @@
 pub mod Forms
 pub mod Lines
 pub mod Pools
-pub mod Scopes
 pub mod Spelling
 pub mod Words

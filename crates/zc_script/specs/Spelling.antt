@@ -11,10 +11,8 @@ use Rattle.zc_script.specs.declared.act.Act.{Act}
 use Rattle.zc_script.specs.declared.act.Act.TheVariants.{Pool, NoSuchPool}
 use Rattle.zc_script.specs.declared.act.Said.{Said}
 use Rattle.zc_script.specs.declared.act.Said.TheVariants.{Session, Does}
-use Rattle.zc_script.specs.declared.scope.Scope.{Scope}
 use Rattle.zc_script.specs.Pools.{is_pool_name, pool_at}
 use Rattle.zc_script.specs.Forms.{act_in}
-use Rattle.zc_script.specs.Scopes.{has_act}
 
 -- 1 to 19 decimal digits of the number, with any leading zeros; the number is at most 2^62
 pub record IsNumeral (text : List ℕ) (number : ℕ) : Type 0 where
@@ -153,14 +151,9 @@ pub record HasLine (command : Command) : Type 0 where
   pub fits : FitsLine command
 
 -- a command that a line can spell, of one of the pools, where the act is a command of a pool
-abbrev pub IsOf : List (List ℕ) → Act → Type 0
-IsOf pools (Pool at command) = ((name : List ℕ) × (pool_at pools name ≡ Some at)) × HasLine command
-IsOf pools NoSuchPool = Unit {0}
-
--- an act of the scope, and where it is a command of a pool, one that a line can spell, of one of the pools
-pub record IsActOf (scope : Scope) (pools : List (List ℕ)) (act : Act) : Type 0 where
-  pub in_scope : IsTrue (has_act scope act)
-  pub act_is : IsOf pools act
+abbrev pub IsActOf : List (List ℕ) → Act → Type 0
+IsActOf pools (Pool at command) = ((name : List ℕ) × (pool_at pools name ≡ Some at)) × HasLine command
+IsActOf pools NoSuchPool = Unit {0}
 
 -- a dataset's path
 abbrev pub dataset_text : List ℕ → List ℕ → List ℕ

@@ -8,9 +8,6 @@
 //
 // The grammar is stated twice: as a function on a line's words, which the code follows, and as the spellings of what a line says
 // (`Spells`), and laws in proofs/ join the two. So each line has one meaning, and what is printed is read back.
-//
-// Who plays scripts may know less than the grammar has. So lines are read in a scope, and one outside it is as bad as one outside
-// the grammar.
 #![tactic(auto)]
 
 mod act;
@@ -19,7 +16,6 @@ mod paths;
 mod pieces;
 mod pools;
 mod printing;
-mod scope;
 mod script;
 #[cfg(test)]
 mod tests;
@@ -29,5 +25,5 @@ pub use act::{Act, Line, Said};
 pub use forms::said_of;
 pub use pools::{is_pool_name, pool_at};
 pub use printing::{print_line, print_no_pool, print_reply, print_session};
-pub use script::{Script, ScriptFault, read_script, read_small_script};
+pub use script::{Script, ScriptFault, read_script};
 pub use words::number_of;

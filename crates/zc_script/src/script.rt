@@ -1,13 +1,11 @@
 // A whole script: its lines, or the first that is bad.
 ghost use Rattle.std.specs.Prelude.{◌≡◌, ◌<◌, ◌≤◌, ◌+◌, ◌∷◌, ◌++◌, [], ℕ, true, false, None, Some, length, ◌==◌, IfOk, IfErr, IfSome, OnOk, All, if◌then◌else◌};
 ghost use Rattle.zc_num.specs.Words.{pieces_ended_by, found_from};
-ghost use Rattle.zc_script.specs.declared.scope.Scope.TheVariants.{Small, Whole};
 ghost use Rattle.zc_script.specs.Spelling.{IsActOf};
-ghost use Rattle.zc_script.specs.Lines.{texts_of, is_ignored, heard, said, is_bad, next_session, bad_from, first_bad, with_line, lines_of, IsLineFault, IsScriptFault};
+ghost use Rattle.zc_script.specs.Lines.{texts_of, is_ignored, said, is_bad, next_session, bad_from, first_bad, with_line, lines_of, IsLineFault, IsScriptFault};
 
 use crate::act::{Line, Said};
 use crate::forms::said_of;
-use crate::scope::{Scope, has_line};
 use std::alloc::Global;
 use std::fmt;
 use zc_num::{Listed, Name, NoMemory};
@@ -63,34 +61,16 @@ fn first_text(bytes: &[u8]) -> (&[u8], &[u8])
     }
 }
 
-// What a line says that isn't ignored.
-#[tactic(auto, unfolding(crate::specs::Lines::heard))]
-fn heard(scope: Scope, alloc: Global, pools: &[Name], text: &[u8]) -> Result<Option<Said>, NoMemory>
-    ensures { IfOk result (λ said. said ≡ heard scope pools.now text.now) }
-{
-    match said_of(alloc, pools, text) {
-        Ok(Some(said)) => {
-            if has_line(scope, &said) {
-                Ok(Some(said))
-            } else {
-                Ok(None)
-            }
-        }
-        Ok(None) => Ok(None),
-        Err(fault) => Err(fault),
-    }
-}
-
 // What a line says, if it isn't ignored.
-fn said(scope: Scope, alloc: Global, pools: &[Name], text: &[u8]) -> Result<Option<Said>, LineFault>
-    ensures ok { IfOk result (λ said_now. said_now ≡ said scope pools.now text.now) }
-    ensures good { OnOk result (is_bad scope pools.now text.now ≡ false) }
-    ensures bad { IfErr result (λ fault. IsLineFault fault (is_bad scope pools.now text.now)) }
+fn said(alloc: Global, pools: &[Name], text: &[u8]) -> Result<Option<Said>, LineFault>
+    ensures ok { IfOk result (λ said_now. said_now ≡ said pools.now text.now) }
+    ensures good { OnOk result (is_bad pools.now text.now ≡ false) }
+    ensures bad { IfErr result (λ fault. IsLineFault fault (is_bad pools.now text.now)) }
 {
     if is_ignored(text) {
         return Ok(None);
     }
-    match heard(scope, alloc, pools, text) {
+    match said_of(alloc, pools, text) {
         Ok(Some(said)) => Ok(Some(said)),
         Ok(None) => Err(LineFault::Bad),
         Err(_) => Err(LineFault::NoMemory),
@@ -99,7 +79,6 @@ fn said(scope: Scope, alloc: Global, pools: &[Name], text: &[u8]) -> Result<Opti
 
 // Adds the line, if it asks for an act, and answers the session of the following line.
 fn push_line(
-    scope: Scope,
     alloc: Global,
     pools: &[Name],
     session: u32,
@@ -107,12 +86,12 @@ fn push_line(
     text: &[u8],
     lines: &mut Vec<Line>,
 ) -> Result<u32, LineFault>
-    ensures ok { OnOk result (lines.new.items ≡ lines.old.items ++ with_line session number (said scope pools.now text.now) []) }
-    ensures session { IfOk result (λ next. next ≡ next_session session (said scope pools.now text.now)) }
-    ensures good { OnOk result (is_bad scope pools.now text.now ≡ false) }
-    ensures bad { IfErr result (λ fault. IsLineFault fault (is_bad scope pools.now text.now)) }
+    ensures ok { OnOk result (lines.new.items ≡ lines.old.items ++ with_line session number (said pools.now text.now) []) }
+    ensures session { IfOk result (λ next. next ≡ next_session session (said pools.now text.now)) }
+    ensures good { OnOk result (is_bad pools.now text.now ≡ false) }
+    ensures bad { IfErr result (λ fault. IsLineFault fault (is_bad pools.now text.now)) }
 {
-    match said(scope, alloc, pools, text) {
+    match said(alloc, pools, text) {
         Ok(Some(Said::Does { act })) => {
             let line = Line {
                 number,
@@ -130,18 +109,16 @@ fn push_line(
     }
 }
 
-// The lines of a script in a scope.
-fn read_lines(
-    scope: Scope,
-    alloc: Global,
-    bytes: &[u8],
-    pools: &[Name],
-) -> Result<Script, ScriptFault>
-    ensures ok { IfOk result (λ script. script.lines ≡ lines_of scope pools.now (texts_of bytes.now)) }
-    ensures acts { IfOk result (λ script. All (λ line. IsActOf scope pools.now line.act) script.lines) }
+/// The lines of a script that ask for an act, in order. `pools` are those of the run.
+///
+/// # Errors
+/// The first line outside the grammar, and want of memory.
+pub fn read_script(alloc: Global, bytes: &[u8], pools: &[Name]) -> Result<Script, ScriptFault>
+    ensures ok { IfOk result (λ script. script.lines ≡ lines_of pools.now (texts_of bytes.now)) }
+    ensures acts { IfOk result (λ script. All (λ line. IsActOf pools.now line.act) script.lines) }
     ensures few { IfOk result (λ script. length script.lines ≤ length bytes.now) }
-    ensures good { OnOk result (first_bad scope pools.now (texts_of bytes.now) ≡ None) }
-    ensures bad { IfErr result (λ fault. IsScriptFault fault (first_bad scope pools.now (texts_of bytes.now))) }
+    ensures good { OnOk result (first_bad pools.now (texts_of bytes.now) ≡ None) }
+    ensures bad { IfErr result (λ fault. IsScriptFault fault (first_bad pools.now (texts_of bytes.now))) }
 {
     let mut lines = Vec::new(alloc);
     let mut rest = bytes;
@@ -149,7 +126,7 @@ fn read_lines(
     let mut count = 0u64;
     while !rest.is_empty() {
         let (text, next) = first_text(rest);
-        match push_line(scope, alloc, pools, session, count + 1, text, &mut lines) {
+        match push_line(alloc, pools, session, count + 1, text, &mut lines) {
             Ok(next_session) => session = next_session,
             Err(LineFault::Bad) => {
                 return Err(ScriptFault::BadLine {
@@ -165,34 +142,4 @@ fn read_lines(
     Ok(Script {
         lines: Listed::from_vec(lines),
     })
-}
-
-/// The lines of a script that ask for an act, in order. `pools` are those of the run.
-///
-/// # Errors
-/// The first line outside the grammar, and want of memory.
-pub fn read_script(alloc: Global, bytes: &[u8], pools: &[Name]) -> Result<Script, ScriptFault>
-    ensures ok { IfOk result (λ script. script.lines ≡ lines_of Whole pools.now (texts_of bytes.now)) }
-    ensures acts { IfOk result (λ script. All (λ line. IsActOf Whole pools.now line.act) script.lines) }
-    ensures few { IfOk result (λ script. length script.lines ≤ length bytes.now) }
-    ensures good { OnOk result (first_bad Whole pools.now (texts_of bytes.now) ≡ None) }
-    ensures bad { IfErr result (λ fault. IsScriptFault fault (first_bad Whole pools.now (texts_of bytes.now))) }
-{
-    read_lines(Scope::Whole, alloc, bytes, pools)
-}
-
-/// The lines of a script that ask for an act, in order, where each makes a dataset or a file, writes or reads the first
-/// 4,000 bytes of a file, or commits. `pools` are those of the run, and each line is of one of them and of session 0.
-///
-/// # Errors
-/// The first other line, and want of memory.
-pub fn read_small_script(alloc: Global, bytes: &[u8], pools: &[Name]) -> Result<Script, ScriptFault>
-    ensures ok { IfOk result (λ script. script.lines ≡ lines_of Small pools.now (texts_of bytes.now)) }
-    ensures acts { IfOk result (λ script. All (λ line. IsActOf Small pools.now line.act) script.lines) }
-    ensures sessions { IfOk result (λ script. All (λ line. line.session ≡ 0) script.lines) }
-    ensures few { IfOk result (λ script. length script.lines ≤ length bytes.now) }
-    ensures good { OnOk result (first_bad Small pools.now (texts_of bytes.now) ≡ None) }
-    ensures bad { IfErr result (λ fault. IsScriptFault fault (first_bad Small pools.now (texts_of bytes.now))) }
-{
-    read_lines(Scope::Small, alloc, bytes, pools)
 }

@@ -24,16 +24,6 @@ fn bad_line(alloc: Global, bytes: &[u8]) -> Result<Option<(u32, u64)>, NoMemory>
     }
 }
 
-// The same of a script that is read as a small one.
-fn bad_small_line(alloc: Global, bytes: &[u8]) -> Result<Option<(u32, u64)>, NoMemory> {
-    let pools = two_pools(alloc)?;
-    match read_small_script(alloc, bytes, pools.as_slice()) {
-        Ok(_) => Ok(None),
-        Err(ScriptFault::BadLine { session, line }) => Ok(Some((session, line))),
-        Err(ScriptFault::NoMemory) => Err(AllocError),
-    }
-}
-
 // Whether a line asks for this command of this pool.
 fn asks(alloc: Global, line: &[u8], pool: u32, command: Command) -> Result<bool, NoMemory> {
     let pools = two_pools(alloc)?;
@@ -391,44 +381,6 @@ fn lines_stand_in_the_session_before_them(rt: HostRuntime) -> Result<(), Fail> {
         session_said(alloc, b"session 0000000000000000015")?,
         Some(15)
     );
-    Ok(())
-}
-
-#[test]
-fn small_scripts_have_fewer_lines(rt: HostRuntime) -> Result<(), Fail> {
-    let alloc = rt.alloc();
-    for line in [
-        b"mkds tank/d".as_slice(),
-        b"create cellar/d/f",
-        b"write tank/d/f 3999 00",
-        b"read tank/d/f 4000 0",
-        b"read tank/d/f 0 4000",
-        b"read tank/d/f 1 3999",
-        b"commit tank\n# \xff\n\ncommit cellar\n",
-    ] {
-        assert_eq!(rt; bad_small_line(alloc, line)?, None);
-    }
-    for line in [
-        b"rmds tank/d".as_slice(),
-        b"mount tank/d",
-        b"remove tank/d/f",
-        b"fill tank/d/f 0 1 1",
-        b"truncate tank/d/f 0",
-        b"stat tank/d/f",
-        b"session 0",
-        b"commit pond",
-        b"write tank/d/f 4000 00",
-        b"read tank/d/f 4001 0",
-        b"read tank/d/f 1 4000",
-        b"read tank/d/f 4611686018427387904 4611686018427387904",
-        b"sync tank/d",
-    ] {
-        assert_eq!(rt; bad_small_line(alloc, line)?, Some((0, 1)));
-    }
-    let most = repeated(alloc, b"write tank/d/f 0 ", b'0', 8000)?;
-    assert_eq!(rt; bad_small_line(alloc, most.as_slice())?, None);
-    let over = repeated(alloc, b"write tank/d/f 0 ", b'0', 8002)?;
-    assert_eq!(rt; bad_small_line(alloc, over.as_slice())?, Some((0, 1)));
     Ok(())
 }
 

@@ -1,203 +1,189 @@
--- What commands come to, put together.
-use Rattle.std.proofs.Common.{◌≡◌, ◌∙◌, ℕ, ◌+◌, Bool, true, false, List, [], ◌∷◌, ◌++◌, length, Option, Some, None, Result, Ok, Err, IsTrue, refl, sym, ap, subst, append-nil, append_assoc, arith}
-use Rattle.std.specs.Prelude.{unwrap_or}
-use Rattle.std.proofs.lemmas.List.{map-append}
-use Rattle.std.specs.declared.alloc.AllocError.{AllocError}
+-- What is true of a pool whatever it is asked stays true, behind one event and behind several.
+use Rattle.std.proofs.Common.{◌≡◌, ◌∙◌, ℕ, ◌≤◌, ◌⊎◌, Bool, List, [], ◌∷◌, length, map, Option, Some, None, Result, Ok, Err, refl, sym, ap, subst, inl, inr, arith, le_refl, le_trans, IsTrue, IfOk, OnErr}
+use Rattle.std.specs.List.{AllByRecursion}
 use Rattle.zc_tape.specs.Tape.{Shape, Tape}
+use Rattle.zc_tape.specs.Cause.{Rose}
 use Rattle.zc_tape.proofs.Extends.{Extends}
-use Rattle.zc_command.specs.declared.command.Command.{Command}
-use Rattle.zc_command.specs.declared.command.Command.TheVariants.{Mkds, Rmds, Mount, Create, Remove, Write, Fill, Truncate, Read, Stat, Commit}
-use Rattle.zc_command.specs.declared.reply.Reply.{Reply}
-use Rattle.zc_command.specs.declared.reply.Reply.TheVariants.{Done}
-use Rattle.zc_script.specs.declared.act.Line.{Line}
-use Rattle.zc_state.specs.State.{State}
-use Rattle.zc_plain.specs.declared.entry.Entry.TheVariants.{Ask}
-use Rattle.zc_plain.specs.History.{PlainState, reply_of, Steps}
-use Rattle.zc_pool.specs.declared.root.Root.{Root}
-use Rattle.zc_files.specs.declared.live.Live.{Live}
-use Rattle.zc_files.specs.Live.{IsSteady, IsLive, StandsForEither, IsDurable}
-use Rattle.zc_session.specs.declared.fault.SessionFault.{SessionFault}
-use Rattle.zc_session.specs.Played.{command_of, commands_of, asked, reply_in, is_commit, commit_ends, with_number}
-use Rattle.zc_session.specs.Midway.{SurvivesFrom, IsMidway, Goes}
-use Rattle.zc_session.proofs.RepliesLaws.{commands_one_more}
-use Rattle.zc_session.proofs.MidwayLaws.{midway_asked, midway_committed, midway_survives, cut_survives}
+use Rattle.zc_heart.specs.Core.{AreApart}
+use Rattle.zc_group.specs.declared.root.Root.{Root}
+use Rattle.zc_open.specs.declared.ack.Ack.{Ack}
+use Rattle.zc_open.specs.declared.ack.Waiting.{Waiting}
+use Rattle.zc_open.specs.declared.open_pool.OpenPool.{OpenPool}
+use Rattle.zc_plain.specs.declared.entry.Entry.{Entry}
+use Rattle.zc_open.specs.Events.{IsAsBefore, EndsWait}
+use Rattle.zc_open.specs.Acked.{acked_after, wait_at, ack_at, AreAcks}
+use Rattle.zc_open.proofs.AckLaws.{acks_before, acks_fails, acks_asks, acks_commit, acks_finishes, acks_ends}
+use Rattle.zc_pool.specs.declared.event.Event.{Event}
+use Rattle.zc_pool.specs.declared.event.Event.TheVariants.{Ask, Step, Settle}
+use Rattle.zc_pool.specs.declared.event.Progress.{Progress}
+use Rattle.zc_pool.specs.declared.event.Progress.TheVariants.{Answered, Waiting as StillWaits, NotYet, Stepped, Idle, Suspended}
+use Rattle.zc_pool.specs.declared.pool.Pool.{Pool}
+use Rattle.zc_pool.specs.Answers.{MayAsk, AnswersEvent}
+use Rattle.zc_pool.specs.Carried.{IsLeftAlone, IsSuspended}
+use Rattle.zc_pool.specs.Opened.{IsNew}
+use Rattle.zc_pool.specs.Running.{Run, IsRunning}
+use Rattle.zc_session.specs.Survives.{IsAcknowledged}
+use Rattle.zc_session.specs.Midway.{IsUnderWay, Goes}
+use Rattle.zc_session.proofs.AckedLaws.{Grows, acks_grow, grows_before, event_grows}
 
--- ---- results
+-- ---- counts of faults
 
--- results, by name
-abbrev ok_of : {X : Type 0} → X → Result X SessionFault
-ok_of x = Ok x
+-- a count that rose in a part of a call rose in the call
+pub rose_within : (before from to now : ℕ) → before ≤ from → Rose from to → to ≤ now → Rose before now
+rose_within before from to now sooner rose later = omega arith
 
-abbrev err_of : {X : Type 0} → SessionFault → Result X SessionFault
-err_of fault = Err fault
+-- ---- one event
 
-abbrev said : Reply → Result (Option Reply) AllocError
-said reply = Ok (Some reply)
+event_acks : (old new : OpenPool) (event : Event) (progress : Progress) → MayAsk old event → AreAcks old → AnswersEvent old new event progress → AreAcks new
+event_acks old new (Ask session command) (Answered reply) may acks asks = acks_asks old new session command reply may.1 acks asks
+event_acks old new (Ask session command) StillWaits may acks (is, asks) = acks_commit old new session may.1 acks asks
+event_acks old new (Ask session command) NotYet may acks answers = absurd answers
+event_acks old new (Ask session command) Stepped may acks answers = absurd answers
+event_acks old new (Ask session command) Idle may acks answers = absurd answers
+event_acks old new (Ask session command) (Suspended call) may acks answers = absurd answers
+event_acks old new Step Stepped may acks (none, made, done, finishes) = acks_finishes old new made done acks finishes
+event_acks old new Step Idle may acks (none, no_jobs, same) = subst AreAcks (sym same) acks
+event_acks old new Step (Suspended call) may acks (inl (failed, same)) = subst AreAcks (sym same) acks
+event_acks old new Step (Suspended call) may acks (inr (none, made, call_is, cut)) = subst AreAcks (sym cut) (acks_fails old made acks)
+event_acks old new Step (Answered reply) may acks answers = absurd answers
+event_acks old new Step StillWaits may acks answers = absurd answers
+event_acks old new Step NotYet may acks answers = absurd answers
+event_acks old new (Settle session) (Answered reply) may acks (waiting, found, ends) = acks_ends old new session waiting reply old.failed acks found ends
+event_acks old new (Settle session) NotYet may acks (waiting, found, none, later, same) = subst AreAcks (sym same) acks
+event_acks old new (Settle session) StillWaits may acks answers = absurd answers
+event_acks old new (Settle session) Stepped may acks answers = absurd answers
+event_acks old new (Settle session) Idle may acks answers = absurd answers
+event_acks old new (Settle session) (Suspended call) may acks answers = absurd answers
 
-abbrev waiting : Result (Option Reply) AllocError
-waiting = Ok None
+-- a call that failed is told of
+event_cause : (old new : OpenPool) (event : Event) (progress : Progress) (before now : ℕ) → AnswersEvent old new event progress → (IsSuspended progress → old.failed ≡ None → Rose before now)
+    → old.failed ≡ None → (new.failed ≡ None) ⊎ Rose before now
+event_cause old new (Ask session command) (Answered reply) before now asks cause none = inl (ap (λ (kept : OpenPool). kept.failed) asks.rest ∙ none)
+event_cause old new (Ask session command) StillWaits before now (is, asks) cause none = inl (ap (λ (kept : OpenPool). kept.failed) asks.rest ∙ none)
+event_cause old new (Ask session command) NotYet before now answers cause none = absurd answers
+event_cause old new (Ask session command) Stepped before now answers cause none = absurd answers
+event_cause old new (Ask session command) Idle before now answers cause none = absurd answers
+event_cause old new (Ask session command) (Suspended call) before now answers cause none = absurd answers
+event_cause old new Step Stepped before now (still, made, done, finishes) cause none = inl (ap (λ (kept : OpenPool). kept.failed) finishes.rest ∙ none)
+event_cause old new Step Idle before now (still, no_jobs, same) cause none = inl (ap (λ (kept : OpenPool). kept.failed) same ∙ none)
+event_cause old new Step (Suspended call) before now answers cause none = inr (cause tt none)
+event_cause old new Step (Answered reply) before now answers cause none = absurd answers
+event_cause old new Step StillWaits before now answers cause none = absurd answers
+event_cause old new Step NotYet before now answers cause none = absurd answers
+event_cause old new (Settle session) (Answered reply) before now (waiting, found, ends) cause none = inl (ended_failed old.failed ends ∙ none) where
+  ended_failed : (failed : Option ℕ) → EndsWait old new waiting reply failed → new.failed ≡ old.failed
+  ended_failed None (done, written, rest) = ap (λ (kept : OpenPool). kept.failed) rest
+  ended_failed (Some call) (eio, rest) = ap (λ (kept : OpenPool). kept.failed) rest
+event_cause old new (Settle session) NotYet before now (waiting, found, still, later, same) cause none = inl (ap (λ (kept : OpenPool). kept.failed) same ∙ none)
+event_cause old new (Settle session) StillWaits before now answers cause none = absurd answers
+event_cause old new (Settle session) Stepped before now answers cause none = absurd answers
+event_cause old new (Settle session) Idle before now answers cause none = absurd answers
+event_cause old new (Settle session) (Suspended call) before now answers cause none = absurd answers
 
-abbrev answer_of : Reply → Result Reply SessionFault
-answer_of reply = Ok reply
+-- what an event came to, with memory or without
+pub left_as_before : {X E : Type 0} (t u : Tape) (root next : Root) (old new : OpenPool) (result : Result X E) → OnErr result (IsLeftAlone t u root next old new) → OnErr result (IsAsBefore old new)
+left_as_before t u root next old new (Ok x) alone = tt
+left_as_before t u root next old new (Err fault) alone = alone.as_before
 
-abbrev fault_of : SessionFault → Result Reply SessionFault
-fault_of fault = Err fault
+result_grows : {E : Type 0} (old new : OpenPool) (event : Event) (result : Result Progress E) → IfOk result (AnswersEvent old new event) → OnErr result (IsAsBefore old new) → Grows old new
+result_grows old new event (Ok progress) answers before = event_grows old new event progress answers
+result_grows old new event (Err fault) answers before = grows_before old new before
 
--- ---- one command
+result_acks : {E : Type 0} (old new : OpenPool) (event : Event) (result : Result Progress E) → MayAsk old event → IfOk result (AnswersEvent old new event) → OnErr result (IsAsBefore old new)
+    → AreAcks old → AreAcks new
+result_acks old new event (Ok progress) may answers before acks = event_acks old new event progress may acks answers
+result_acks old new event (Err fault) may answers before acks = acks_before old new acks before
 
--- what is answered at once is no commit
-pub answered_at_once : (state : PlainState) (command : Command) (reply : Reply) → Some reply ≡ reply_of state (asked command) → is_commit command ≡ false
-unfolding reply_of
-answered_at_once state (Mkds dataset) reply is = refl
-answered_at_once state (Rmds dataset) reply is = refl
-answered_at_once state (Mount dataset) reply is = refl
-answered_at_once state (Create dataset file) reply is = refl
-answered_at_once state (Remove dataset file) reply is = refl
-answered_at_once state (Write dataset file offset bytes) reply is = refl
-answered_at_once state (Fill dataset file offset len byte) reply is = refl
-answered_at_once state (Truncate dataset file size) reply is = refl
-answered_at_once state (Read dataset file offset len) reply is = refl
-answered_at_once state (Stat dataset file) reply is = refl
-answered_at_once state Commit reply is = absurd cc
+result_cause : {E : Type 0} (old new : OpenPool) (event : Event) (result : Result Progress E) (before now : ℕ) → IfOk result (AnswersEvent old new event) → OnErr result (IsAsBefore old new)
+    → IfOk result (λ progress. IsSuspended progress → old.failed ≡ None → Rose before now) → old.failed ≡ None → (new.failed ≡ None) ⊎ Rose before now
+result_cause old new event (Ok progress) before now answers same cause none = event_cause old new event progress before now answers cause none
+result_cause old new event (Err fault) before now answers same cause none = inl (ap (λ (kept : OpenPool). kept.failed) same.1 ∙ none)
 
--- and what waits is one
-pub answered_later : (state : PlainState) (command : Command) → None ≡ reply_of state (asked command) → is_commit command ≡ true
-unfolding reply_of
-answered_later state (Mkds dataset) is = absurd cc
-answered_later state (Rmds dataset) is = absurd cc
-answered_later state (Mount dataset) is = absurd cc
-answered_later state (Create dataset file) is = absurd cc
-answered_later state (Remove dataset file) is = absurd cc
-answered_later state (Write dataset file offset bytes) is = absurd cc
-answered_later state (Fill dataset file offset len byte) is = absurd cc
-answered_later state (Truncate dataset file size) is = absurd cc
-answered_later state (Read dataset file offset len) is = absurd cc
-answered_later state (Stat dataset file) is = absurd cc
-answered_later state Commit is = refl
-
--- how many commits one command is
-pub no_commit_ends : (command : Command) → is_commit command ≡ false → length (commit_ends 0 (command ∷ [])) ≡ 0
-no_commit_ends command none = ap (λ (test : Bool). length (with_number test 1 [])) none
-
-pub one_commit_ends : (command : Command) → is_commit command ≡ true → length (commit_ends 0 (command ∷ [])) ≡ 1
-one_commit_ends command one = ap (λ (test : Bool). length (with_number test 1 [])) one
-
--- a command keeps the size of the plain files
-pub size_kept : (shape : Shape) (old new : Live) → new.root ≡ old.root → IsSteady shape old → IsSteady shape new → new.plain.pool.limits ≡ old.plain.pool.limits
-size_kept shape old new root was is = is.limits ∙ ap (λ (root : Root). root.limits) root ∙ sym was.limits
-
--- asking keeps what is live
-abbrev KeepsSteady : (old new : Live) → Type 0
-KeepsSteady old new = (shape : Shape) → IsSteady shape old → IsSteady shape new
-
-abbrev KeepsLive : (old new : Live) → Type 0
-KeepsLive old new = (shape : Shape) (t : Tape) (s : State) → IsSteady shape old → IsLive shape t s old → IsLive shape t s new
-
--- the first part of the commit: a step that is answered later
-abbrev Waits : (old mid : PlainState) → Command → Type 0
-Waits old mid command = Steps old mid waiting (Ask 0 command)
-
--- it was answered at once
-pub goes_asked : (shape : Shape) (t : Tape) (old new : Live) (command : Command) (reply : Reply)
-    → Steps old.plain new.plain (said reply) (Ask 0 command) → new.root ≡ old.root → IsSteady shape old → KeepsSteady old new → KeepsLive old new
-    → Goes shape t t old new (command ∷ []) (answer_of reply)
-goes_asked shape t old new command reply steps root was steady live limits start group done midway =
-    midway_asked shape t limits start group done command old new (answered_at_once old.plain command reply steps.0) steps.1 (size_kept shape old new root was (steady shape was))
-    (λ s is. live shape t s was is) midway
-
--- it wasn't, and nothing was written
-pub goes_unasked : (shape : Shape) (t : Tape) (old new : Live) (commands : List Command) (fault : SessionFault) → Goes shape t t old new commands (fault_of fault)
-goes_unasked shape t old new commands fault limits start group done rest midway = midway_survives shape t limits start group done (commands ++ rest) old midway
-
--- the commit was made
-pub goes_committed : (shape : Shape) (t u : Tape) (old mid new : Live) (command : Command) (reply : Reply)
-    → Waits old.plain mid.plain command → mid.root ≡ old.root → IsSteady shape old → KeepsSteady old mid → KeepsLive old mid
-    → (IsTrue t.told → Extends t u) → ((s : State) → IsLive shape t s mid → StandsForEither shape s mid.plain.pool t u)
-    → ((s : State) → IsLive shape t s mid → (next : State) × IsDurable shape u s next new) → new.plain ≡ mid.plain
-    → Goes shape t u old new (command ∷ []) (answer_of reply)
-goes_committed shape t u old mid new command reply steps root was steady live longer either made kept limits start group done midway =
-    let mid_live : IsLive shape t midway.state mid = live shape t midway.state was midway.is_live in
-    let durable : (next : State) × IsDurable shape u midway.state next new = made midway.state mid_live in
-    midway_committed shape t u limits start group done command old mid new (answered_later old.plain command steps.0) (longer midway.is_live.told) steps.1
-    (size_kept shape old mid root was (steady shape was)) kept midway (either midway.state mid_live) durable.0 durable.1
-
--- or it failed
-pub goes_uncommitted : (shape : Shape) (t u : Tape) (old mid new : Live) (command : Command) (fault : SessionFault)
-    → Waits old.plain mid.plain command → mid.root ≡ old.root → IsSteady shape old → KeepsSteady old mid → KeepsLive old mid
-    → (IsTrue t.told → Extends t u) → ((s : State) → IsLive shape t s mid → StandsForEither shape s mid.plain.pool t u)
-    → Goes shape t u old new (command ∷ []) (fault_of fault)
-goes_uncommitted shape t u old mid new command fault steps root was steady live longer either limits start group done rest midway =
-    cut_survives shape t u limits start group done rest command old mid (longer midway.is_live.told) steps.1 (size_kept shape old mid root was (steady shape was))
-    midway (either midway.state (live shape t midway.state was midway.is_live))
-
--- what a command answers
-pub reply_at_once : (old new : PlainState) (command : Command) (reply : Reply) → Steps old new (said reply) (Ask 0 command) → reply ≡ reply_in old command
-reply_at_once old new command reply steps = ap (λ (said : Option Reply). unwrap_or said Done) steps.0
-
-pub reply_later : (old new : PlainState) (command : Command) → Waits old new command → Done ≡ reply_in old command
-reply_later old new command steps = ap (λ (said : Option Reply). unwrap_or said Done) steps.0
-
--- how many groups it makes
-pub group_at_once : (old new : PlainState) (command : Command) (reply : Reply) (group : ℕ) → Steps old new (said reply) (Ask 0 command) → group ≡ group + length (commit_ends 0 (command ∷ []))
-group_at_once old new command reply group steps = let none = no_commit_ends command (answered_at_once old command reply steps.0) in omega arith
-
-pub group_later : (old new : PlainState) (command : Command) (group next : ℕ) → Waits old new command → next ≡ group + 1 → next ≡ group + length (commit_ends 0 (command ∷ []))
-group_later old new command group next steps is = let one = one_commit_ends command (answered_later old command steps.0) in omega arith
+pub event_goes : {D E : Type 0} (shape : D → Shape) (tape : D → Tape) (faults : D → ℕ) (old new : Pool D) (event : Event) (result : Result Progress E)
+    → MayAsk old.kept event
+    → IfOk result (AnswersEvent old.kept new.kept event)
+    → OnErr result (IsAsBefore old.kept new.kept)
+    → ((run : Run) → IsRunning (shape old.disks) (tape old.disks) run old.root old.kept → IsRunning (shape old.disks) (tape new.disks) run new.root new.kept)
+    → shape new.disks ≡ shape old.disks
+    → (tape new.disks).told ≡ (tape old.disks).told
+    → (IsTrue (tape old.disks).told → Extends (tape old.disks) (tape new.disks))
+    → faults old.disks ≤ faults new.disks
+    → IfOk result (λ progress. IsSuspended progress → old.kept.failed ≡ None → Rose (faults old.disks) (faults new.disks))
+    → Goes shape tape faults old new
+event_goes shape tape faults old new event result may answers before goes_on same_shape same_told longer later cause = record {
+  same_shape = same_shape;
+  same_told = same_told;
+  same_start = λ told. (longer told).start;
+  later = later;
+  cause = result_cause old.kept new.kept event result (faults old.disks) (faults new.disks) answers before cause;
+  under_way = λ run way. onward run way;
+} where
+  onward : (run : Run) → IsUnderWay shape tape run old → IsUnderWay shape tape run new
+  onward run way =
+      let told : IsTrue (tape new.disks).told = subst (λ (told : Bool). IsTrue told) (sym same_told) way.told in
+      let running : IsRunning (shape old.disks) (tape new.disks) run new.root new.kept = goes_on run way.running in
+      record {
+        told = told;
+        from_first = way.from_first;
+        running = subst (λ (of : Shape). IsRunning of (tape new.disks) run new.root new.kept) (sym same_shape) running;
+        acks_are = result_acks old.kept new.kept event result may answers before way.acks_are;
+        acknowledged =
+            subst (λ (of : Shape). AllByRecursion (IsAcknowledged of (tape new.disks) run.start.limits run.start new.kept.history) new.kept.acks) (sym same_shape)
+            (acks_grow (shape old.disks) (tape old.disks) (tape new.disks) run new.root old.kept new.kept told way.from_first (longer way.told) running
+            (result_grows old.kept new.kept event result answers before) way.acknowledged);
+      }
 
 -- ---- several
 
--- no command
-pub goes_nowhere : {X : Type 0} (shape : Shape) (t : Tape) (live : Live) (x : X) → Goes shape t t live live [] (ok_of x)
-goes_nowhere shape t live x limits start group done midway = subst (λ (commands : List Command). IsMidway shape t limits start group commands live) (sym (append-nil done)) midway
+pub goes_nowhere : {D : Type 0} (shape : D → Shape) (tape : D → Tape) (faults : D → ℕ) (pool : Pool D) → Goes shape tape faults pool pool
+goes_nowhere shape tape faults pool = record {
+  same_shape = refl;
+  same_told = refl;
+  same_start = λ told. refl;
+  later = le_refl (faults pool.disks);
+  cause = λ none. inl none;
+  under_way = λ run way. way;
+}
 
--- commands behind others
-pub goes_then : {X Y : Type 0} (shape : Shape) (t u v : Tape) (old mid new : Live) (xs ys : List Command) (x : X) (result : Result Y SessionFault)
-    → Goes shape t u old mid xs (ok_of x) → Goes shape u v mid new ys result → Goes shape t v old new (xs ++ ys) result
-goes_then shape t u v old mid new xs ys x (Ok y) first second = λ limits start group done midway.
-    subst (λ (commands : List Command). IsMidway shape v limits start group commands new) (append_assoc done xs ys) (second limits start group (done ++ xs) (first limits start group done midway))
-goes_then shape t u v old mid new xs ys x (Err fault) first second = λ limits start group done rest midway.
-    subst (λ (commands : List Command). SurvivesFrom shape v limits start group commands)
-    (append_assoc done xs (ys ++ rest) ∙ ap (λ (commands : List Command). done ++ commands) (sym (append_assoc xs ys rest)))
-    (second limits start group (done ++ xs) rest (first limits start group done midway))
+pub goes_then : {D : Type 0} (shape : D → Shape) (tape : D → Tape) (faults : D → ℕ) (old mid new : Pool D) → Goes shape tape faults old mid → Goes shape tape faults mid new → Goes shape tape faults old new
+goes_then shape tape faults old mid new first second = record {
+  same_shape = second.same_shape ∙ first.same_shape;
+  same_told = second.same_told ∙ first.same_told;
+  same_start = λ told. second.same_start (subst (λ (told : Bool). IsTrue told) (sym first.same_told) told) ∙ first.same_start told;
+  later = le_trans first.later second.later;
+  cause = λ none. at (first.cause none);
+  under_way = λ run way. second.under_way run (first.under_way run way);
+} where
+  whole : (mid.kept.failed ≡ None → (new.kept.failed ≡ None) ⊎ Rose (faults mid.disks) (faults new.disks)) → mid.kept.failed ≡ None → (new.kept.failed ≡ None) ⊎ Rose (faults old.disks) (faults new.disks)
+  whole cause none = later (cause none) where
+    later : (new.kept.failed ≡ None) ⊎ Rose (faults mid.disks) (faults new.disks) → (new.kept.failed ≡ None) ⊎ Rose (faults old.disks) (faults new.disks)
+    later (inl still) = inl still
+    later (inr rose) = inr (rose_within (faults old.disks) (faults mid.disks) (faults new.disks) (faults new.disks) first.later rose (le_refl (faults new.disks)))
 
--- what was cut short has the commands that were to follow too
-pub goes_cut : (X Y : Type 0) (shape : Shape) (t u : Tape) (old new other : Live) (xs more : List Command) (fault : SessionFault)
-    → Goes {X = X} shape t u old new xs (err_of fault) → Goes {X = Y} shape t u old other (xs ++ more) (err_of fault)
-goes_cut X Y shape t u old new other xs more fault cut limits start group done rest midway =
-    subst (λ (commands : List Command). SurvivesFrom shape u limits start group commands)
-    (ap (λ (commands : List Command). done ++ commands) (sym (append_assoc xs more rest)))
-    (cut limits start group done (more ++ rest) midway)
+  at : (mid.kept.failed ≡ None) ⊎ Rose (faults old.disks) (faults mid.disks) → (new.kept.failed ≡ None) ⊎ Rose (faults old.disks) (faults new.disks)
+  at (inl none) = whole second.cause none
+  at (inr rose) = inr (rose_within (faults old.disks) (faults old.disks) (faults mid.disks) (faults new.disks) (le_refl (faults old.disks)) rose second.later)
 
--- what was done and not told is cut short
-pub goes_untold : (X Y : Type 0) (shape : Shape) (t u : Tape) (old new : Live) (xs : List Command) (x : X) (fault : SessionFault)
-    → Goes shape t u old new xs (ok_of x) → Goes {X = Y} shape t u old new xs (err_of fault)
-goes_untold X Y shape t u old new xs x fault went limits start group done rest midway =
-    subst (λ (commands : List Command). SurvivesFrom shape u limits start group commands) (append_assoc done xs rest)
-    (midway_survives shape u limits start group (done ++ xs) rest new (went limits start group done midway))
+-- ---- the beginning
 
--- what was done is told or not
-pub goes_told_or_not : {X Y : Type 0} (shape : Shape) (t u : Tape) (old new : Live) (xs : List Command) (x : X) (result : Result Y SessionFault)
-    → Goes shape t u old new xs (ok_of x) → Goes shape t u old new xs result
-goes_told_or_not shape t u old new xs x (Ok y) went = went
-goes_told_or_not {X} {Y} shape t u old new xs x (Err fault) went = goes_untold X Y shape t u old new xs x fault went
+acked_first : (history : List Entry) (waits : List Waiting) (acks : List Ack) → history ≡ [] → waits ≡ [] → acks ≡ []
+    → acked_after history ≡ record { entries = length history; waits = map wait_at waits; done = map ack_at acks }
+acked_first [] [] [] no_entry no_wait no_ack = refl
+acked_first (entry ∷ history) waits acks no_entry no_wait no_ack = absurd cc
+acked_first [] (waiting ∷ waits) acks no_entry no_wait no_ack = absurd cc
+acked_first [] [] (ack ∷ acks) no_entry no_wait no_ack = absurd cc
 
--- ---- lines
-
--- one more line
-pub goes_next : {X Y : Type 0} (shape now : Shape) (t u v : Tape) (old mid new : Live) (lines : List Line) (line : Line) (command : Command) (x : X) (result : Result Y SessionFault)
-    → command ≡ command_of line.act → now ≡ shape → Goes shape t u old mid (commands_of lines) (ok_of x) → Goes now u v mid new (command ∷ []) result
-    → Goes shape t v old new (commands_of (lines ++ line ∷ [])) result
-goes_next shape now t u v old mid new lines line command x result is same first second =
-    subst (λ (commands : List Command). Goes shape t v old new commands result) (sym (commands_one_more lines line command is))
-    (goes_then shape t u v old mid new (commands_of lines) (command ∷ []) x result first
-    (subst (λ (shape : Shape). Goes shape u v mid new (command ∷ []) result) same second))
-
--- the last line that was tried, and those behind it
-pub goes_stopped : (X Y : Type 0) (shape now : Shape) (t u v : Tape) (old mid new : Live) (lines : List Line) (line : Line) (command : Command) (rest all : List Line) (x : X) (fault : SessionFault)
-    → command ≡ command_of line.act → now ≡ shape → Goes shape t u old mid (commands_of lines) (ok_of x) → Goes {X = Y} now u v mid new (command ∷ []) (err_of fault) → lines ++ line ∷ rest ≡ all
-    → Goes {X = Y} shape t v old new (commands_of all) (err_of fault)
-goes_stopped X Y shape now t u v old mid new lines line command rest all x fault is same first second parts =
-    subst (λ (lines : List Line). Goes {X = Y} shape t v old new (commands_of lines) (err_of fault)) (append_assoc lines (line ∷ []) rest ∙ parts)
-    (subst (λ (commands : List Command). Goes {X = Y} shape t v old new commands (err_of fault)) (sym (map-append (λ (line : Line). command_of line.act) (lines ++ line ∷ []) rest))
-    (goes_cut Y Y shape t v old new new (commands_of (lines ++ line ∷ [])) (commands_of rest) fault
-    (goes_next {X = X} {Y = Y} shape now t u v old mid new lines line command x (err_of fault) is same first second)))
+-- a pool that was taken up is under way
+pub begins_under_way : {D : Type 0} (shape : D → Shape) (tape : D → Tape) (run : Run) (pool : Pool D) → IsTrue (tape pool.disks).told → run.begun ≡ 0
+    → IsRunning (shape pool.disks) (tape pool.disks) run pool.root pool.kept → IsNew pool.kept → IsUnderWay shape tape run pool
+begins_under_way shape tape run pool told first running begins = record {
+  told = told;
+  from_first = first;
+  running = running;
+  acks_are = record {
+    acked = acked_first pool.kept.history pool.kept.waits pool.kept.acks begins.history begins.waits begins.acks;
+    apart = subst (λ (waits : List Waiting). AreApart (map (λ (waiting : Waiting). waiting.session) waits)) (sym begins.waits) tt;
+  };
+  acknowledged =
+      subst (λ (acks : List Ack). AllByRecursion (IsAcknowledged (shape pool.disks) (tape pool.disks) run.start.limits run.start pool.kept.history) acks) (sym begins.acks) tt;
+}

@@ -1,7 +1,5 @@
-pub mod AckLaws
-pub mod BeginLaws
+pub mod AckedLaws
+pub mod AnswerLaws
+pub mod EndLaws
+pub mod EntryLaws
 pub mod GoesLaws
-pub mod MidwayLaws
-pub mod PlayedLaws
-pub mod RepliesLaws
-pub mod SessionLaws

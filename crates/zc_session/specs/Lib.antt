@@ -1,3 +1,4 @@
+pub mod Ending
 pub mod Midway
 pub mod Played
 pub mod Session

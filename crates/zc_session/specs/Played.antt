@@ -1,80 +1,100 @@
--- What plain files answer to commands one after the other, as a text.
-use Rattle.std.specs.Prelude.{ℕ, ◌+◌, Bool, true, false, List, [], ◌∷◌, ◌++◌, map, take, codes, unwrap_or}
+-- What the lines of a script add to the history of a pool, and the text of a run.
+use Rattle.std.specs.Prelude.{◌≡◌, ℕ, Bool, true, false, List, [], ◌∷◌, ◌++◌, codes}
 use Rattle.std.specs.Fmt.{decimal}
 use Rattle.zc_command.specs.declared.command.Command.{Command}
-use Rattle.zc_command.specs.declared.command.Command.TheVariants.{Mkds, Rmds, Mount, Create, Remove, Write, Fill, Truncate, Read, Stat, Commit}
+use Rattle.zc_command.specs.declared.command.Command.TheVariants.{Commit}
 use Rattle.zc_command.specs.declared.reply.Reply.{Reply}
-use Rattle.zc_command.specs.declared.reply.Reply.TheVariants.{Done}
+use Rattle.zc_command.specs.declared.reply.Reply.TheVariants.{Done, Count, Data, Size, No}
 use Rattle.zc_command.specs.Texts.{reply_text}
 use Rattle.zc_script.specs.declared.act.Act.{Act}
 use Rattle.zc_script.specs.declared.act.Act.TheVariants.{Pool, NoSuchPool}
 use Rattle.zc_script.specs.declared.act.Line.{Line}
 use Rattle.zc_plain.specs.declared.entry.Entry.{Entry}
-use Rattle.zc_plain.specs.declared.entry.Entry.TheVariants.{Ask}
-use Rattle.zc_plain.specs.declared.plain_pool.PlainPool.{PlainPool}
-use Rattle.zc_plain.specs.History.{PlainState, begun, step, reply_of}
+use Rattle.zc_plain.specs.declared.entry.Entry.TheVariants.{Ask, Answer, Seal, Finish}
+use Rattle.zc_plain.specs.History.{is_waiting}
 
--- the command of a line; a line whose pool isn't there has one that no open pool takes
-abbrev pub command_of : Act → Command
-command_of (Pool at command) = command
-command_of NoSuchPool = Mount []
+-- the session of the commit that ends a run
+abbrev pub last_session : ℕ
+last_session = 16
 
--- the commands of lines, in order
-abbrev pub commands_of : List Line → List Command
-commands_of lines = map (λ line. command_of line.act) lines
+-- ---- what is asked
 
--- the entry of a command, which session 0 asks
-abbrev pub asked : Command → Entry
-asked command = Ask 0 command
+-- a session and its command
+pub record Asking : Type 0 where
+  pub session : ℕ
+  pub command : Command
 
--- the reply to a command; a commit is answered once it is made
-abbrev pub reply_in : PlainState → Command → Reply
-reply_in state command = unwrap_or (reply_of state (asked command)) Done
+abbrev pub with_asking : (session : ℕ) → Act → List Asking → List Asking
+with_asking session (Pool at command) askings = record { session = session; command = command } ∷ askings
+with_asking session NoSuchPool askings = askings
 
--- the state behind commands, the first first
-abbrev pub behind : PlainState → List Command → PlainState
-behind state [] = state
-behind state (command ∷ commands) = behind (step state (asked command)) commands
+-- what the lines ask of their pool, in order; then
+abbrev pub askings_before : List Line → List Asking → List Asking
+askings_before [] last = last
+askings_before (line ∷ lines) last = with_asking line.session line.act (askings_before lines last)
 
--- the pool behind the first n commands
-abbrev pub pool_behind : PlainPool → List Command → ℕ → PlainPool
-pool_behind start commands n = (behind (begun start) (take n commands)).pool
+-- what a run asks: what its lines ask, and the commit that ends it
+abbrev pub run_of : List Line → List Asking
+run_of lines = askings_before lines (record { session = last_session; command = Commit } ∷ [])
 
--- the replies to commands, a line each
-abbrev pub replies_to : PlainState → List Command → List ℕ
-replies_to state [] = []
-replies_to state (command ∷ commands) = reply_text (reply_in state command) ++ (codes "\n" ++ replies_to (step state (asked command)) commands)
+-- what the entries of a history ask, in order
+abbrev pub askings_in : List Entry → List Asking
+askings_in [] = []
+askings_in (Ask session command ∷ history) = record { session = session; command = command } ∷ askings_in history
+askings_in (Answer session reply ∷ history) = askings_in history
+askings_in (Seal group ∷ history) = askings_in history
+askings_in (Finish group held ∷ history) = askings_in history
+
+-- ---- what is added
+
+-- nothing, or the finish of the group
+abbrev pub IsFinish : (group : ℕ) → List Entry → Type 0
+IsFinish group [] = Unit {0}
+IsFinish group (entry ∷ entries) = (held : ℕ) × (entry ≡ Finish group held) × (entries ≡ [])
+
+-- the entries of a command: it is answered at once, or waits for its group
+abbrev pub AddsAnswer : (waits : Bool) → (session : ℕ) → Command → Reply → List Entry → Type 0
+AddsAnswer false session command reply entries = entries ≡ Ask session command ∷ Answer session reply ∷ []
+AddsAnswer true session command reply entries =
+    (group : ℕ) × (finish : List Entry) × IsFinish group finish × (entries ≡ Ask session command ∷ Seal group ∷ (finish ++ Answer session reply ∷ []))
+
+abbrev pub AddsCommand : (session : ℕ) → Command → Reply → List Entry → Type 0
+AddsCommand session command = AddsAnswer (is_waiting command) session command
+
+-- the reply to a line whose pool isn't of the run
+abbrev pub no_pool_text : List ℕ
+no_pool_text = codes "ENXIO pool"
+
+-- the entries of a line, and the text of its reply
+abbrev pub AddsAct : (session : ℕ) → Act → List Entry → List ℕ → Type 0
+AddsAct session (Pool at command) entries text = (reply : Reply) × AddsCommand session command reply entries × (text ≡ reply_text reply)
+AddsAct session NoSuchPool entries text = (entries ≡ []) × (text ≡ no_pool_text)
+
+-- the entries of lines, in order, and the text of their replies, each in a line of its own
+abbrev pub AddsLines : List Line → List Entry → List ℕ → Type 0
+AddsLines [] entries text = (entries ≡ []) × (text ≡ [])
+AddsLines (line ∷ lines) entries text =
+    (first rest : List Entry) × (said more : List ℕ) × AddsAct line.session line.act first said × AddsLines lines rest more
+    × (entries ≡ first ++ rest) × (text ≡ said ++ (codes "\n" ++ more))
+
+-- ---- the end
+
+-- the last commit was done
+abbrev pub is_done : Reply → Bool
+is_done Done = true
+is_done (Count bytes) = false
+is_done (Data bytes) = false
+is_done (Size size blocks) = false
+is_done (No refusal) = false
+
+-- how a pool's last commit came out: the group of its root, or its refusal
+abbrev pub end_of : Reply → (group : ℕ) → List ℕ
+end_of Done group = codes "group " ++ decimal group
+end_of (Count bytes) group = reply_text (Count bytes)
+end_of (Data bytes) group = reply_text (Data bytes)
+end_of (Size size blocks) group = reply_text (Size size blocks)
+end_of (No refusal) group = reply_text (No refusal)
 
 -- the line that ends the text of a pool
-abbrev pub end_line : List ℕ → ℕ → List ℕ
-end_line name group = codes "end " ++ (name ++ (codes " group " ++ (decimal group ++ codes "\n")))
-
--- ---- commits
-
--- the command is a commit
-abbrev pub is_commit : Command → Bool
-is_commit (Mkds dataset) = false
-is_commit (Rmds dataset) = false
-is_commit (Mount dataset) = false
-is_commit (Create dataset file) = false
-is_commit (Remove dataset file) = false
-is_commit (Write dataset file offset bytes) = false
-is_commit (Fill dataset file offset len byte) = false
-is_commit (Truncate dataset file size) = false
-is_commit (Read dataset file offset len) = false
-is_commit (Stat dataset file) = false
-is_commit Commit = true
-
--- the number in front of the others, where the test holds
-abbrev pub with_number : Bool → ℕ → List ℕ → List ℕ
-with_number true number numbers = number ∷ numbers
-with_number false number numbers = numbers
-
--- for each commit, how many commands there are up to it and with it, n of them before these
-abbrev pub commit_ends : ℕ → List Command → List ℕ
-commit_ends n [] = []
-commit_ends n (command ∷ commands) = with_number (is_commit command) (n + 1) (commit_ends (n + 1) commands)
-
--- the commands of a run: those of its script, and the commit that ends it
-abbrev pub run_of : List Line → List Command
-run_of lines = commands_of lines ++ Commit ∷ []
+abbrev pub end_line : (name : List ℕ) → Reply → (group : ℕ) → List ℕ
+end_line name reply group = codes "end " ++ (name ++ (codes " " ++ (end_of reply group ++ codes "\n")))

@@ -7,7 +7,7 @@ pub enum SessionFault {
     NoMemory,
     /// The disk set holds no pool.
     NoPool,
-    /// A call of the disk set failed.
+    /// A call of the disk set failed as the pool was taken up.
     Failed,
     /// The pool is damaged.
     Damaged { damage: Damage },

@@ -1,143 +1,196 @@
-// The commands of a script, done one after the other on an open pool.
-ghost use Rattle.std.specs.Prelude.{◌≡◌, ◌+◌, ◌^◌, ◌<◌, ◌≤◌, ◌∷◌, [], ◌++◌, length, codes, IfOk, OnOk, IfErr, IsErrOf, IsTrue};
-ghost use Rattle.std.specs.Fmt.{decimal};
+// The lines of a script, asked one after the other.
+//
+// Between two lines no session waits, and no group is to be written, unless a call has failed. So a commit takes three events: it is
+// asked, the one group that waits is written, and the wait is ended.
+ghost use Rattle.std.specs.Prelude.{◌≡◌, ◌∷◌, [], ◌++◌, List, codes, None, IfOk, OnOk, OnErr};
 ghost use Rattle.std.specs.List.{AllByRecursion};
-ghost use Rattle.zc_tape.specs.Cause.{Rose};
+ghost use Rattle.std.specs.Fmt.{decimal};
+ghost use Rattle.zc_command.specs.Names.{AreConditions};
 ghost use Rattle.zc_command.specs.Texts.{reply_text};
 ghost use Rattle.zc_command.specs.declared.command.Command.TheVariants.{Commit};
-ghost use Rattle.zc_plain.specs.History.{step};
-ghost use Rattle.zc_files.specs.Live.{IsSteady};
-ghost use Rattle.zc_session.specs.Played.{command_of, commands_of, asked, reply_in, behind, replies_to, end_line, commit_ends, run_of};
-ghost use Rattle.zc_session.specs.Midway.{Goes};
-ghost use Rattle.zc_session.specs.Session.{IsFit, IsNoAnswer};
+ghost use Rattle.zc_script.specs.declared.act.Line.{Line as LineOf};
+ghost use Rattle.zc_plain.specs.History.{is_waiting};
+ghost use Rattle.zc_open.specs.declared.ack.Waiting.{Waiting as WaitingOf};
+ghost use Rattle.zc_open.specs.Events.{IsAsBefore};
+ghost use Rattle.zc_pool.specs.Answers.{MayAsk, AnswersEvent};
+ghost use Rattle.zc_pool.specs.Opened.{IsNew};
+ghost use Rattle.zc_pool.specs.Running.{IsPool};
+ghost use Rattle.zc_session.specs.Played.{Asking, askings_in, askings_before, run_of, AddsLines, last_session, is_done, end_of, end_line, with_asking};
+ghost use Rattle.zc_session.specs.Survives.{IsFront};
+ghost use Rattle.zc_session.specs.Session.{AreActs};
+ghost use Rattle.zc_session.specs.Midway.{Goes, IsQuiet, HasSealed, HasWritten, Waits, MayBeAnswered, IsAnswered, EndsBy, AddsReply, AddsEnd, AddsWhole, AddsLine, asking, AsksSome, MeetsAct, AddsEndLine, HasEnded};
 
-use crate::SessionFault;
+use crate::session::Played;
 use std::alloc::Global;
 use zc_command::{Command, Reply};
-use zc_files::{Live, commit};
 use zc_num::{Listed, NoMemory};
-use zc_pool::CommitFault;
-use zc_script::{Act, Line, print_reply};
+use zc_pool::{Event, Pool, Progress};
+use zc_script::{Act, Line, print_no_pool, print_reply};
 use zc_tape::DiskSet;
 
-// Does a command, and gives its reply.
-fn do_command<D: DiskSet>(
+// The session of the commit that ends a run.
+const LAST_SESSION: u32 = 16;
+
+// ---- events
+
+// Makes an event.
+fn make<D: DiskSet>(alloc: Global, pool: &mut Pool<D>, event: Event) -> Result<Progress, NoMemory>
+    requires pool { IsPool (D.shape pool.old.disks) pool.old.root pool.old.kept }
+    requires may { MayAsk pool.old.kept event }
+    ensures goes { Goes D.shape D.tape D.faults pool.old pool.new }
+    ensures pool { IsPool (D.shape pool.new.disks) pool.new.root pool.new.kept }
+    ensures answers { IfOk result (λ progress. AnswersEvent pool.old.kept pool.new.kept event progress) }
+    ensures memory { OnErr result (IsAsBefore pool.old.kept pool.new.kept) }
+{
+    pool.event(alloc, event)
+}
+
+// The reply of an event that answered.
+fn reply_of(progress: Progress) -> Reply
+    requires { IsAnswered progress }
+    ensures { progress ≡ Progress.Answered result }
+{
+    match progress {
+        Progress::Answered { reply } => reply,
+        _ => unreachable!(),
+    }
+}
+
+// Ends the session's wait.
+fn settle<D: DiskSet>(alloc: Global, pool: &mut Pool<D>, session: u32) -> Result<Reply, NoMemory>
+    requires pool { IsPool (D.shape pool.old.disks) pool.old.root pool.old.kept }
+    requires may { MayBeAnswered pool.old.kept session }
+    ensures goes { Goes D.shape D.tape D.faults pool.old pool.new }
+    ensures pool { IsPool (D.shape pool.new.disks) pool.new.root pool.new.kept }
+    ensures quiet { OnOk result (IsQuiet pool.new.kept) }
+    ensures ends { IfOk result (λ reply. EndsBy pool.new.kept.failed reply) }
+    ensures adds { IfOk result (λ reply. AddsReply pool.old.kept.history pool.new.kept.history session reply) }
+    ensures asked { askings_in pool.new.kept.history ≡ askings_in pool.old.kept.history }
+{
+    match make(alloc, pool, Event::Settle { session }) {
+        Ok(progress) => Ok(reply_of(progress)),
+        Err(NoMemory) => Err(NoMemory),
+    }
+}
+
+// Writes the group that the session sealed, and ends its wait.
+fn wait<D: DiskSet>(alloc: Global, pool: &mut Pool<D>, session: u32) -> Result<Reply, NoMemory>
+    requires pool { IsPool (D.shape pool.old.disks) pool.old.root pool.old.kept }
+    requires waits { Waits pool.old.kept session }
+    ensures goes { Goes D.shape D.tape D.faults pool.old pool.new }
+    ensures pool { IsPool (D.shape pool.new.disks) pool.new.root pool.new.kept }
+    ensures quiet { OnOk result (IsQuiet pool.new.kept) }
+    ensures ends { IfOk result (λ reply. EndsBy pool.new.kept.failed reply) }
+    ensures adds { (waiting : WaitingOf) → HasSealed pool.old.kept session waiting
+        → IfOk result (λ reply. AddsEnd pool.old.kept.history pool.new.kept.history waiting.group session reply) }
+    ensures asked { askings_in pool.new.kept.history ≡ askings_in pool.old.kept.history }
+{
+    make(alloc, pool, Event::Step)?;
+    settle(alloc, pool, session)
+}
+
+// Asks a command, and gives its reply: at once, or once its group is written.
+fn ask<D: DiskSet>(
     alloc: Global,
-    disks: &mut D,
-    live: &mut Live,
+    pool: &mut Pool<D>,
+    session: u32,
     command: Command,
-) -> Result<Reply, SessionFault>
-    requires steady { IsSteady (D.shape disks.old) live.old }
-    requires fit { IsFit command }
-    requires entries { live.old.plain.entries < 2 ^ 63 }
-    requires group { live.old.root.tree.group < 2 ^ 63 }
-    ensures shape { D.shape disks.new ≡ D.shape disks.old }
-    ensures told { (D.tape disks.new).told ≡ (D.tape disks.old).told }
-    ensures began { IsTrue (D.tape disks.old).told → (D.tape disks.new).start ≡ (D.tape disks.old).start }
-    ensures reply { IfOk result (λ reply. reply ≡ reply_in live.old.plain command) }
-    ensures plain { OnOk result (live.new.plain ≡ step live.old.plain (asked command)) }
-    ensures group { OnOk result (live.new.root.tree.group ≡ live.old.root.tree.group + length (commit_ends 0 (command ∷ []))) }
-    ensures steady { IsSteady (D.shape disks.old) live.new }
-    ensures goes { Goes (D.shape disks.old) (D.tape disks.old) (D.tape disks.new) live.old live.new (command ∷ []) result }
-    ensures only { IfErr result IsNoAnswer }
-    ensures later { D.faults disks.old ≤ D.faults disks.new }
-    ensures cause { IsErrOf result SessionFault.Failed → Rose (D.faults disks.old) (D.faults disks.new) }
+) -> Result<Reply, NoMemory>
+    requires pool { IsPool (D.shape pool.old.disks) pool.old.root pool.old.kept }
+    requires quiet { IsQuiet pool.old.kept }
+    requires conditions { AreConditions command }
+    ensures goes { Goes D.shape D.tape D.faults pool.old pool.new }
+    ensures pool { IsPool (D.shape pool.new.disks) pool.new.root pool.new.kept }
+    ensures quiet { OnOk result (IsQuiet pool.new.kept) }
+    ensures ends { IfOk result (λ reply. command ≡ Commit → EndsBy pool.new.kept.failed reply) }
+    ensures adds { IfOk result (λ reply. AddsWhole pool.old.kept.history pool.new.kept.history session command reply) }
+    ensures asked { AsksSome pool.old.kept.history pool.new.kept.history (asking session command ∷ []) }
 {
-    match live.ask(0, command) {
-        Ok(Some(reply)) => Ok(reply),
-        Ok(None) => match commit(alloc, disks, live) {
-            Ok(()) => Ok(Reply::Done),
-            Err(CommitFault::NoMemory) => Err(SessionFault::NoMemory),
-            Err(CommitFault::Failed) => Err(SessionFault::Failed),
-        },
-        Err(NoMemory) => Err(SessionFault::NoMemory),
+    match make(alloc, pool, Event::Ask { session, command }) {
+        Ok(Progress::Answered { reply }) => Ok(reply),
+        Ok(Progress::Waiting) => wait(alloc, pool, session),
+        Ok(_) => unreachable!(),
+        Err(NoMemory) => Err(NoMemory),
     }
 }
 
-// Adds a reply and the end of its line.
-fn say(alloc: Global, reply: &Reply, out: &mut Vec<u8>) -> Result<(), SessionFault>
-    ensures text { OnOk result (out.new.items ≡ out.old.items ++ (reply_text reply.now ++ codes "\n")) }
-    ensures memory { IfErr result (λ fault. fault ≡ SessionFault.NoMemory) }
-{
-    match print_reply(alloc, reply, out) {
-        Ok(()) => Ok(()),
-        Err(_) => Err(SessionFault::NoMemory),
-    }
-}
+// ---- lines
 
-// Does a command, and adds its reply.
+// Asks the command of a line, and adds its reply.
 fn play_command<D: DiskSet>(
     alloc: Global,
-    disks: &mut D,
-    live: &mut Live,
+    pool: &mut Pool<D>,
+    session: u32,
     command: Command,
     out: &mut Vec<u8>,
-) -> Result<(), SessionFault>
-    requires steady { IsSteady (D.shape disks.old) live.old }
-    requires fit { IsFit command }
-    requires entries { live.old.plain.entries < 2 ^ 63 }
-    requires group { live.old.root.tree.group < 2 ^ 63 }
-    ensures shape { D.shape disks.new ≡ D.shape disks.old }
-    ensures told { (D.tape disks.new).told ≡ (D.tape disks.old).told }
-    ensures began { IsTrue (D.tape disks.old).told → (D.tape disks.new).start ≡ (D.tape disks.old).start }
-    ensures text { OnOk result (out.new.items ≡ out.old.items ++ (reply_text (reply_in live.old.plain command) ++ codes "\n")) }
-    ensures plain { OnOk result (live.new.plain ≡ step live.old.plain (asked command)) }
-    ensures group { OnOk result (live.new.root.tree.group ≡ live.old.root.tree.group + length (commit_ends 0 (command ∷ []))) }
-    ensures steady { IsSteady (D.shape disks.old) live.new }
-    ensures goes { Goes (D.shape disks.old) (D.tape disks.old) (D.tape disks.new) live.old live.new (command ∷ []) result }
-    ensures only { IfErr result IsNoAnswer }
-    ensures later { D.faults disks.old ≤ D.faults disks.new }
-    ensures cause { IsErrOf result SessionFault.Failed → Rose (D.faults disks.old) (D.faults disks.new) }
+) -> Result<(), NoMemory>
+    requires pool { IsPool (D.shape pool.old.disks) pool.old.root pool.old.kept }
+    requires quiet { IsQuiet pool.old.kept }
+    requires conditions { AreConditions command }
+    ensures goes { Goes D.shape D.tape D.faults pool.old pool.new }
+    ensures pool { IsPool (D.shape pool.new.disks) pool.new.root pool.new.kept }
+    ensures quiet { OnOk result (IsQuiet pool.new.kept) }
+    ensures adds { OnOk result ((reply : Reply) × AddsWhole pool.old.kept.history pool.new.kept.history session command reply
+        × (out.new.items ≡ out.old.items ++ (reply_text reply ++ codes "\n"))) }
+    ensures asked { AsksSome pool.old.kept.history pool.new.kept.history (asking session command ∷ []) }
 {
-    match do_command(alloc, disks, live, command) {
-        Ok(reply) => say(alloc, &reply, out),
-        Err(fault) => Err(fault),
+    match ask(alloc, pool, session, command) {
+        Ok(reply) => print_reply(alloc, &reply, out),
+        Err(NoMemory) => Err(NoMemory),
     }
 }
 
-// The command of a line.
-fn command_of(line: Line) -> Command
-    requires { IsFit (command_of line.act) }
-    ensures { result ≡ command_of line.act }
+// Does what a line asks for, and adds the reply.
+fn play_line<D: DiskSet>(
+    alloc: Global,
+    pool: &mut Pool<D>,
+    line: Line,
+    out: &mut Vec<u8>,
+) -> Result<(), NoMemory>
+    requires pool { IsPool (D.shape pool.old.disks) pool.old.root pool.old.kept }
+    requires quiet { IsQuiet pool.old.kept }
+    requires conditions { MeetsAct line.act }
+    ensures goes { Goes D.shape D.tape D.faults pool.old pool.new }
+    ensures pool { IsPool (D.shape pool.new.disks) pool.new.root pool.new.kept }
+    ensures quiet { OnOk result (IsQuiet pool.new.kept) }
+    ensures adds { OnOk result (AddsLine line pool.old.kept.history pool.new.kept.history out.old.items out.new.items) }
+    ensures asked { AsksSome pool.old.kept.history pool.new.kept.history (with_asking line.session line.act []) }
 {
-    match line.act {
-        Act::Pool { command, .. } => command,
-        Act::NoSuchPool => unreachable!(),
+    let Line { session, act, .. } = line;
+    match act {
+        Act::Pool { command, .. } => play_command(alloc, pool, session, command, out),
+        Act::NoSuchPool => print_no_pool(out),
     }
 }
 
-// Does the commands of lines in order, and adds their replies.
+// Does what the lines ask for in their order, and adds the replies.
 fn play_lines<D: DiskSet>(
     alloc: Global,
-    disks: &mut D,
-    live: &mut Live,
+    pool: &mut Pool<D>,
     lines: Vec<Line>,
     out: &mut Vec<u8>,
-) -> Result<(), SessionFault>
-    requires steady { IsSteady (D.shape disks.old) live.old }
-    requires fit { AllByRecursion IsFit (commands_of lines.items) }
-    requires entries { live.old.plain.entries + length lines.items < 2 ^ 63 }
-    requires group { live.old.root.tree.group + length lines.items < 2 ^ 63 }
-    ensures shape { D.shape disks.new ≡ D.shape disks.old }
-    ensures told { (D.tape disks.new).told ≡ (D.tape disks.old).told }
-    ensures began { IsTrue (D.tape disks.old).told → (D.tape disks.new).start ≡ (D.tape disks.old).start }
-    ensures text { OnOk result (out.new.items ≡ out.old.items ++ replies_to live.old.plain (commands_of lines.items)) }
-    ensures plain { OnOk result (live.new.plain ≡ behind live.old.plain (commands_of lines.items)) }
-    ensures group { OnOk result (live.new.root.tree.group ≡ live.old.root.tree.group + length (commit_ends 0 (commands_of lines.items))) }
-    ensures steady { IsSteady (D.shape disks.old) live.new }
-    ensures goes { Goes (D.shape disks.old) (D.tape disks.old) (D.tape disks.new) live.old live.new (commands_of lines.items) result }
-    ensures only { IfErr result IsNoAnswer }
-    ensures later { D.faults disks.old ≤ D.faults disks.new }
-    ensures cause { IsErrOf result SessionFault.Failed → Rose (D.faults disks.old) (D.faults disks.new) }
+) -> Result<(), NoMemory>
+    requires pool { IsPool (D.shape pool.old.disks) pool.old.root pool.old.kept }
+    requires quiet { IsQuiet pool.old.kept }
+    requires conditions { AllByRecursion (λ (line : LineOf). MeetsAct line.act) lines.items }
+    requires no_entry { pool.old.kept.history ≡ [] }
+    requires no_text { out.old.items ≡ [] }
+    ensures goes { Goes D.shape D.tape D.faults pool.old pool.new }
+    ensures pool { IsPool (D.shape pool.new.disks) pool.new.root pool.new.kept }
+    ensures quiet { OnOk result (IsQuiet pool.new.kept) }
+    ensures adds { OnOk result (AddsLines lines.items pool.new.kept.history out.new.items) }
+    ensures asked { OnErr result ((last : List Asking) → IsFront (askings_in pool.new.kept.history) (askings_before lines.items last)) }
 {
     for line in lines {
-        match play_command(alloc, disks, live, command_of(line), out) {
+        match play_line(alloc, pool, line, out) {
             Ok(()) => {}
-            Err(fault) => return Err(fault),
+            Err(NoMemory) => return Err(NoMemory),
         }
     }
     Ok(())
 }
+
+// ---- the end
 
 // Adds a number in decimal digits.
 fn push_number(alloc: Global, out: &mut Vec<u8>, number: u64) -> Result<(), NoMemory>
@@ -147,82 +200,110 @@ fn push_number(alloc: Global, out: &mut Vec<u8>, number: u64) -> Result<(), NoMe
     out.extend_from_slice(digits.as_bytes())
 }
 
+// Adds how the last commit came out.
+fn push_outcome(alloc: Global, out: &mut Vec<u8>, reply: &Reply, group: u64) -> Result<(), NoMemory>
+    ensures { OnOk result (out.new.items ≡ out.old.items ++ end_of reply.now group) }
+{
+    match reply {
+        Reply::Done => {
+            out.extend_from_slice(b"group ")?;
+            push_number(alloc, out, group)
+        }
+        other => other.push_text(alloc, out),
+    }
+}
+
 // Adds the line that ends the text of a pool.
-fn push_end(alloc: Global, out: &mut Vec<u8>, name: &[u8], group: u64) -> Result<(), NoMemory>
-    ensures { OnOk result (out.new.items ≡ out.old.items ++ end_line name.now group) }
+fn push_end(
+    alloc: Global,
+    out: &mut Vec<u8>,
+    name: &[u8],
+    reply: &Reply,
+    group: u64,
+) -> Result<(), NoMemory>
+    ensures { OnOk result (out.new.items ≡ out.old.items ++ end_line name.now reply.now group) }
 {
     out.extend_from_slice(b"end ")?;
     out.extend_from_slice(name)?;
-    out.extend_from_slice(b" group ")?;
-    push_number(alloc, out, group)?;
+    out.extend_from_slice(b" ")?;
+    push_outcome(alloc, out, reply, group)?;
     out.extend_from_slice(b"\n")
 }
 
+// Whether the commit was done.
+fn is_done(reply: &Reply) -> bool
+    ensures { result ≡ is_done reply.now }
+{
+    match reply {
+        Reply::Done => true,
+        _ => false,
+    }
+}
+
 // The text with the line that ends it.
-fn ended(alloc: Global, out: Vec<u8>, name: &[u8], group: u64) -> Result<Vec<u8>, SessionFault>
-    ensures text { IfOk result (λ text. text.items ≡ out.items ++ end_line name.now group) }
-    ensures memory { IfErr result (λ fault. fault ≡ SessionFault.NoMemory) }
+fn ended(
+    alloc: Global,
+    out: Vec<u8>,
+    name: &[u8],
+    reply: &Reply,
+    group: u64,
+) -> Result<Played, NoMemory>
+    ensures text { IfOk result (λ played. played.text.items ≡ out.items ++ end_line name.now reply.now group) }
+    ensures good { IfOk result (λ played. played.good ≡ is_done reply.now) }
 {
     let mut text = out;
-    match push_end(alloc, &mut text, name, group) {
-        Ok(()) => Ok(text),
-        Err(_) => Err(SessionFault::NoMemory),
+    match push_end(alloc, &mut text, name, reply, group) {
+        Ok(()) => Ok(Played {
+            text,
+            good: is_done(reply),
+        }),
+        Err(NoMemory) => Err(NoMemory),
     }
 }
 
-// Makes the commit that ends a run, and gives the text of the run.
+// Makes the commit that ends a run, and ends its text.
 fn play_end<D: DiskSet>(
     alloc: Global,
-    disks: &mut D,
-    live: &mut Live,
+    pool: &mut Pool<D>,
     name: &[u8],
     out: Vec<u8>,
-) -> Result<Vec<u8>, SessionFault>
-    requires steady { IsSteady (D.shape disks.old) live.old }
-    requires entries { live.old.plain.entries < 2 ^ 63 }
-    requires group { live.old.root.tree.group < 2 ^ 63 }
-    ensures shape { D.shape disks.new ≡ D.shape disks.old }
-    ensures told { (D.tape disks.new).told ≡ (D.tape disks.old).told }
-    ensures began { IsTrue (D.tape disks.old).told → (D.tape disks.new).start ≡ (D.tape disks.old).start }
-    ensures text { IfOk result (λ text. text.items ≡ out.items ++ end_line name.now (live.old.root.tree.group + 1)) }
-    ensures goes { Goes (D.shape disks.old) (D.tape disks.old) (D.tape disks.new) live.old live.new (Commit ∷ []) result }
-    ensures only { IfErr result IsNoAnswer }
-    ensures later { D.faults disks.old ≤ D.faults disks.new }
-    ensures cause { IsErrOf result SessionFault.Failed → Rose (D.faults disks.old) (D.faults disks.new) }
+) -> Result<Played, NoMemory>
+    requires pool { IsPool (D.shape pool.old.disks) pool.old.root pool.old.kept }
+    requires quiet { IsQuiet pool.old.kept }
+    ensures goes { Goes D.shape D.tape D.faults pool.old pool.new }
+    ensures pool { IsPool (D.shape pool.new.disks) pool.new.root pool.new.kept }
+    ensures quiet { OnOk result (IsQuiet pool.new.kept) }
+    ensures adds { IfOk result (λ played. AddsEndLine name.now pool.new.root.tree.group pool.old.kept.history pool.new.kept.history pool.new.kept.failed
+        out.items played.text.items played.good) }
+    ensures asked { AsksSome pool.old.kept.history pool.new.kept.history (asking last_session Commit ∷ []) }
 {
-    match do_command(alloc, disks, live, Command::Commit) {
-        Ok(_) => ended(alloc, out, name, live.root.tree.group),
-        Err(fault) => Err(fault),
+    match ask(alloc, pool, LAST_SESSION, Command::Commit) {
+        Ok(reply) => ended(alloc, out, name, &reply, pool.root_group()),
+        Err(NoMemory) => Err(NoMemory),
     }
 }
 
-/// Does the commands of lines in order and the commit that ends a run, and gives the text of the run.
+/// Asks what the lines ask for in their order, ends with the last commit, and gives the text of the run.
 ///
 /// # Errors
-/// `Failed` where a call of the disks failed, and want of memory.
-pub fn play_run<D: DiskSet>(
+/// Want of memory.
+pub(crate) fn play_run<D: DiskSet>(
     alloc: Global,
-    disks: &mut D,
-    live: &mut Live,
+    pool: &mut Pool<D>,
     name: &[u8],
     lines: Listed<Line>,
-) -> Result<Vec<u8>, SessionFault>
-    requires steady { IsSteady (D.shape disks.old) live.old }
-    requires fit { AllByRecursion IsFit (commands_of lines) }
-    requires entries { live.old.plain.entries + length lines < 2 ^ 63 }
-    requires group { live.old.root.tree.group + length lines < 2 ^ 63 }
-    ensures shape { D.shape disks.new ≡ D.shape disks.old }
-    ensures told { (D.tape disks.new).told ≡ (D.tape disks.old).told }
-    ensures began { IsTrue (D.tape disks.old).told → (D.tape disks.new).start ≡ (D.tape disks.old).start }
-    ensures text { IfOk result (λ text. text.items ≡ replies_to live.old.plain (commands_of lines) ++ end_line name.now (live.old.root.tree.group + length (commit_ends 0 (run_of lines)))) }
-    ensures goes { Goes (D.shape disks.old) (D.tape disks.old) (D.tape disks.new) live.old live.new (run_of lines) result }
-    ensures only { IfErr result IsNoAnswer }
-    ensures later { D.faults disks.old ≤ D.faults disks.new }
-    ensures cause { IsErrOf result SessionFault.Failed → Rose (D.faults disks.old) (D.faults disks.new) }
+) -> Result<Played, NoMemory>
+    requires pool { IsPool (D.shape pool.old.disks) pool.old.root pool.old.kept }
+    requires begins { IsNew pool.old.kept }
+    requires acts { AreActs lines }
+    ensures goes { Goes D.shape D.tape D.faults pool.old pool.new }
+    ensures pool { IsPool (D.shape pool.new.disks) pool.new.root pool.new.kept }
+    ensures ended { IfOk result (λ played. HasEnded name.now lines pool.new.root.tree.group pool.new.kept played.text.items played.good) }
+    ensures asked { IsFront (askings_in pool.new.kept.history) (run_of lines) }
 {
     let mut out = Vec::new(alloc);
-    match play_lines(alloc, disks, live, lines.into_vec(), &mut out) {
-        Ok(()) => play_end(alloc, disks, live, name, out),
-        Err(fault) => Err(fault),
+    match play_lines(alloc, pool, lines.into_vec(), &mut out) {
+        Ok(()) => play_end(alloc, pool, name, out),
+        Err(NoMemory) => Err(NoMemory),
     }
 }

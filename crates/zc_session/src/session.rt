@@ -1,25 +1,34 @@
 // A run on a disk set.
-ghost use Rattle.std.specs.Prelude.{◌≡◌, ◌^◌, ◌<◌, ◌≤◌, [], length, None, IfOk, IfErr, IsErrOf, IsTrue};
+ghost use Rattle.std.specs.Prelude.{◌≡◌, ◌^◌, ◌<◌, ◌≤◌, [], false, length, IfOk, IfErr, IsErrOf, IsTrue};
 ghost use Rattle.zc_num.specs.Limits.{AreLimits};
 ghost use Rattle.zc_tape.specs.Cause.{Rose};
 ghost use Rattle.zc_tape.specs.Crash.{reads};
 ghost use Rattle.zc_layout.specs.Standing.{HasNoRoot};
 ghost use Rattle.zc_state.specs.State.{State, StandsFor, IsFresh};
-ghost use Rattle.zc_pool.specs.Imported.{size_hit};
-ghost use Rattle.zc_session.specs.Played.{commands_of, run_of};
-ghost use Rattle.zc_session.specs.Survives.{Survives};
-ghost use Rattle.zc_session.specs.Session.{AreActs, fault_of, IsPlayed, IsNoAnswer, IsBeforeWrites, IsDamageOf};
+ghost use Rattle.zc_pool.specs.Opened.{IsNew};
+ghost use Rattle.zc_pool.specs.Running.{IsPool};
+ghost use Rattle.zc_session.specs.Survives.{SurvivesRun};
+ghost use Rattle.zc_session.specs.Session.{AreActs, IsPlayed, IsNoAnswer, IsBeforeWrites, IsDamageOf, fault_of};
+ghost use Rattle.zc_session.specs.Ending.{RunsTo};
 
 use crate::SessionFault;
 use crate::playing::play_run;
 use std::alloc::Global;
-use zc_files::open;
-use zc_num::Listed;
-use zc_pool::ImportFault;
+use zc_num::{Listed, NoMemory};
+use zc_pool::{ImportFault, Pool};
 use zc_script::Line;
 use zc_tape::DiskSet;
 
-// Why a pool wasn't opened, as a run tells it.
+/// What a run came to.
+#[derive(Drop)]
+pub struct Played {
+    /// All replies, and the line that ends them.
+    pub text: Vec<u8>,
+    /// Whether the last commit was done.
+    pub good: bool,
+}
+
+// Why a pool wasn't taken up, as a run tells it.
 fn fault_of(fault: ImportFault) -> SessionFault
     ensures { result ≡ fault_of fault }
 {
@@ -31,18 +40,38 @@ fn fault_of(fault: ImportFault) -> SessionFault
     }
 }
 
-/// Opens the pool of a disk set that has no call on its tape, does the commands of the lines in order, ends with a commit, and gives
-/// the text of the run. The disk set is given back in any case.
+// Plays lines on a pool that was taken up, and gives its disk set back.
+fn play_pool<D: DiskSet>(
+    alloc: Global,
+    pool: Pool<D>,
+    name: &[u8],
+    lines: Listed<Line>,
+) -> (D, Result<Played, SessionFault>)
+    requires pool { IsPool (D.shape pool.disks) pool.root pool.kept }
+    requires begins { IsNew pool.kept }
+    requires acts { AreActs lines }
+    ensures { RunsTo D.shape D.tape D.faults pool name.now lines result.0 result.1 }
+{
+    let mut pool = pool;
+    match play_run(alloc, &mut pool, name, lines) {
+        Ok(played) => (pool.into_disks(), Ok(played)),
+        Err(NoMemory) => (pool.into_disks(), Err(SessionFault::NoMemory)),
+    }
+}
+
+/// Takes up the pool of a disk set that has no call on its tape, asks what the lines say in their order, ends with a commit of session
+/// 16, and gives the text of the run. A line that waits is written and answered before the next one is asked. The disk set is given back
+/// in any case.
 ///
 /// # Errors
-/// `NoPool` and `Damaged` where the pool isn't opened, and then nothing was written; `Failed` where a call of the disks failed; want of
-/// memory.
+/// `NoPool` and `Damaged` where the pool isn't taken up, and then nothing was written; `Failed` where a call of the disks failed as it was
+/// taken up; want of memory. A call that fails later is told in the text.
 pub fn play_on<D: DiskSet>(
     alloc: Global,
     disks: D,
     name: &[u8],
     lines: Listed<Line>,
-) -> (D, Result<Vec<u8>, SessionFault>)
+) -> (D, Result<Played, SessionFault>)
     requires fresh { (D.tape disks).calls ≡ [] }
     requires acts { AreActs lines }
     requires few { length lines < 2 ^ 32 }
@@ -50,14 +79,15 @@ pub fn play_on<D: DiskSet>(
     ensures told { (D.tape result.0).told ≡ (D.tape disks).told }
     ensures began { IsTrue (D.tape disks).told → (D.tape result.0).start ≡ (D.tape disks).start }
 
-    // Whatever it came to, a crash at any moment leaves a prefix of the run that holds every commit that was answered.
+    // Whatever it came to, a crash at any moment leaves the files behind some first entries of the run's history, among which is every
+    // commit that was answered by then.
     ensures survives { (s : State) → IsTrue (D.tape disks).told → StandsFor (D.shape disks) (reads (D.tape disks)) s
-        → Survives (D.shape disks) (D.tape result.0) s (run_of lines) }
-    ensures played { IfOk result.1 (λ text. IsPlayed (D.shape disks) (D.tape result.0) name.now (commands_of lines) (run_of lines) text.items) }
+        → SurvivesRun (D.shape disks) (D.tape result.0) s lines }
+    ensures played { IfOk result.1 (λ played. IsPlayed (D.shape disks) (D.tape result.0) name.now lines played.text.items played.good) }
+    ensures failed { IfOk result.1 (λ played. played.good ≡ false → Rose (D.faults disks) (D.faults result.0)) }
 
-    // A sound pool with low numbers and small files is opened.
-    ensures only { (s : State) → IsTrue (D.tape disks).told → StandsFor (D.shape disks) (reads (D.tape disks)) s → IsFresh s → size_hit s.parts.tree ≡ None
-        → IfErr result.1 IsNoAnswer }
+    // A sound pool with low numbers is taken up.
+    ensures only { (s : State) → IsTrue (D.tape disks).told → StandsFor (D.shape disks) (reads (D.tape disks)) s → IsFresh s → IfErr result.1 IsNoAnswer }
     ensures none { IsErrOf result.1 SessionFault.NoPool → IsTrue (D.tape disks).told → AreLimits (D.shape disks).devices (D.shape disks).places
         → HasNoRoot (reads (D.tape disks)) }
     ensures damaged { IfErr result.1 (λ fault. IsTrue (D.tape disks).told → IsDamageOf (D.shape disks) (reads (D.tape disks)) fault) }
@@ -65,13 +95,8 @@ pub fn play_on<D: DiskSet>(
     ensures later { D.faults disks ≤ D.faults result.0 }
     ensures cause { IsErrOf result.1 SessionFault.Failed → Rose (D.faults disks) (D.faults result.0) }
 {
-    match open(alloc, disks) {
-        Ok((disks, live)) => {
-            let mut disks = disks;
-            let mut live = live;
-            let text = play_run(alloc, &mut disks, &mut live, name, lines);
-            (disks, text)
-        }
+    match Pool::import(alloc, disks) {
+        Ok(pool) => play_pool(alloc, pool, name, lines),
         Err((fault, disks)) => (disks, Err(fault_of(fault))),
     }
 }

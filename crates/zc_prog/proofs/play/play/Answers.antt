@@ -1,4 +1,4 @@
-use Rattle.std.proofs.Common.{ℕ, List, Option, Some, None, map, subst, sym, ◌∙◌}
+use Rattle.std.proofs.Common.{ℕ, List, Option, map, subst, sym, ◌∙◌}
 use Rattle.std.specs.Prelude.{string_bytes}
 use Rattle.zc_prog.specs.declared.words.Task.{Task}
 use Rattle.zc_prog.specs.Words.{task_of}

@@ -1,4 +1,3 @@
-use Rattle.std.proofs.Common.{◌<◌, arith}
 use Rattle.zc_prog.proofs.WordLaws.{too_many_places}
 use Rattle.zc_prog.proofs.words.size_of.Goals as goal
 

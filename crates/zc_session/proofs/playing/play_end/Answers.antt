@@ -1,9 +1,13 @@
-use Rattle.std.proofs.Common.{◌∷◌, []}
-use Rattle.zc_command.specs.declared.command.Command.TheVariants.{Commit}
-use Rattle.zc_session.proofs.GoesLaws.{goes_told_or_not}
+-- The last commit is asked as any other, and its line ends the text.
+use Rattle.std.proofs.Common.{refl}
+use Rattle.zc_session.proofs.EndLaws.{still_quiet, adds_end_line}
 use Rattle.zc_session.proofs.playing.play_end.Goals as goal
 
-pub returns-in-Ok-clause-goes : goal.returns-in-Ok-clause-goes
-returns-in-Ok-clause-goes g c =
-    goes_told_or_not (g.D.DiskSet.shape c.args.disks.now) (g.D.DiskSet.tape c.args.disks.now) (g.D.DiskSet.tape c.do_command.new.disks) c.args.live.now c.do_command.new.live (Commit ∷ [])
-    c.in-Ok.field-0 c.ended.result c.in-Ok.ensures.goes
+pub returns-in-Ok-clause-quiet : goal.returns-in-Ok-clause-quiet
+returns-in-Ok-clause-quiet g c = still_quiet c.ask.new.pool.kept c.ended.result c.in-Ok.ensures.quiet
+
+pub returns-in-Ok-clause-adds : goal.returns-in-Ok-clause-adds
+returns-in-Ok-clause-adds g c =
+    let new = c.ask.new.pool in
+    adds_end_line c.args.name.now c.root_group.result new.root.tree.group c.args.pool.now.kept.history new.kept.history new.kept.failed c.args.out.items c.in-Ok.reply c.ended.result
+    c.root_group.ensures c.in-Ok.ensures.adds (c.in-Ok.ensures.ends refl) c.ended.ensures.text c.ended.ensures.good

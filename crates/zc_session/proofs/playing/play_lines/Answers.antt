@@ -1,55 +1,29 @@
-use Rattle.std.proofs.Common.{◌≡◌, ◌∙◌, ◌+◌, List, [], ◌∷◌, ◌++◌, length, Ok, IsTrue, Bool, sym, ap, subst, append_assoc, le_trans, arith}
+-- Each line goes on from where the lines before it came to.
+use Rattle.std.proofs.Common.{◌≡◌, ◌∙◌, ◌∷◌, [], ◌++◌, List, length, refl, sym, ap, subst, append_assoc, append-nil, arith}
 use Rattle.std.specs.List.{AllByRecursion}
 use Rattle.std.specs.Vec.Iter.{into_iter_items}
-use Rattle.std.proofs.lemmas.List.{length-append}
-use Rattle.zc_tape.specs.Tape.{Shape}
 use Rattle.zc_script.specs.declared.act.Line.{Line}
-use Rattle.zc_plain.specs.History.{PlainState}
-use Rattle.zc_files.specs.Live.{IsSteady}
-use Rattle.zc_session.specs.Played.{commands_of}
-use Rattle.zc_session.specs.Session.{IsFit}
-use Rattle.zc_session.proofs.GoesLaws.{goes_next, goes_stopped}
-use Rattle.zc_session.proofs.RepliesLaws.{entries_behind_lines, few_commits_of_lines, text_next, plain_next, group_next}
+use Rattle.zc_session.specs.Played.{askings_in, askings_before, AddsLines}
+use Rattle.zc_session.specs.Survives.{IsFront}
+use Rattle.zc_session.specs.Midway.{MeetsAct}
+use Rattle.zc_session.proofs.EntryLaws.{lines_and_line, front_in_line}
+use Rattle.zc_session.proofs.GoesLaws.{goes_then}
 use Rattle.zc_session.proofs.playing.play_lines.Goals as goal
 
-pub play_command-requires-clause-entries : goal.play_command-requires-clause-entries
-play_command-requires-clause-entries g c =
-    let at = c.loop-line in
-    let all : length at.yielded + length (into_iter_items at.line-iterator) ≡ length (into_iter_items c.into_iter-line-iterator.result) =
-    sym (length-append at.yielded (into_iter_items at.line-iterator)) ∙ ap length at.invariant.parts in
-    let steps = ap length c.in-Some.ensures.steps.0 in
-    let lines = ap length c.into_iter-line-iterator.ensures.into_iter_gives.0 in
-    let entries : at.live.plain.entries ≡ c.args.live.now.plain.entries + length at.yielded =
-    ap (λ (state : PlainState). state.entries) at.invariant.plain ∙ entries_behind_lines c.args.live.now.plain at.yielded in
-    omega (arith, c.requires.entries)
+nothing_left : (lines : List Line) → length lines ≡ 0 → lines ≡ []
+nothing_left [] none = refl
+nothing_left (line ∷ lines) none = absurd (omega arith)
 
-pub play_command-requires-clause-group : goal.play_command-requires-clause-group
-play_command-requires-clause-group g c =
-    let at = c.loop-line in
-    let all : length at.yielded + length (into_iter_items at.line-iterator) ≡ length (into_iter_items c.into_iter-line-iterator.result) =
-    sym (length-append at.yielded (into_iter_items at.line-iterator)) ∙ ap length at.invariant.parts in
-    let steps = ap length c.in-Some.ensures.steps.0 in
-    let lines = ap length c.into_iter-line-iterator.ensures.into_iter_gives.0 in
-    let group = at.invariant.group in
-    omega (arith, c.requires.group, few_commits_of_lines at.yielded)
-
-pub command_of-requires : goal.command_of-requires
-command_of-requires g c =
+pub play_line-requires-clause-conditions : goal.play_line-requires-clause-conditions
+play_line-requires-clause-conditions g c =
     let steps : into_iter_items c.loop-line.line-iterator ≡ c.in-Some.line ∷ into_iter_items c.next.new.self = c.in-Some.ensures.steps.0 in
-    (subst (λ (lines : List Line). AllByRecursion IsFit (commands_of lines)) steps c.loop-line.invariant.fit).0
-
-pub play_command-requires-clause-fit : goal.play_command-requires-clause-fit
-play_command-requires-clause-fit g c =
-    let steps : into_iter_items c.loop-line.line-iterator ≡ c.in-Some.line ∷ into_iter_items c.next.new.self = c.in-Some.ensures.steps.0 in
-    subst IsFit (sym c.command_of.ensures) (subst (λ (lines : List Line). AllByRecursion IsFit (commands_of lines)) steps c.loop-line.invariant.fit).0
+    (subst (λ (lines : List Line). AllByRecursion (λ (line : Line). MeetsAct line.act) lines) steps c.loop-line.invariant.conditions).0
 
 pub loop-line-preserved : goal.loop-line-preserved
 loop-line-preserved g c =
     let at = c.loop-line in
     let line = c.in-Some.line in
     let steps : into_iter_items at.line-iterator ≡ line ∷ into_iter_items c.next.new.self = c.in-Some.ensures.steps.0 in
-    let done = c.in-Ok.ensures in
-    let unit : Unit {0} = tt in
     record {
       parts = append_assoc at.yielded (line ∷ []) (into_iter_items c.next.new.self) ∙ ap (λ (lines : List Line). at.yielded ++ lines) (sym steps) ∙ at.invariant.parts;
       count =
@@ -57,25 +31,36 @@ loop-line-preserved g c =
           let gone = c.in-Some.ensures.steps.1 in
           let short = ap length steps in
           omega arith;
-      fit = (subst (λ (lines : List Line). AllByRecursion IsFit (commands_of lines)) steps at.invariant.fit).1;
-      same_shape = done.shape ∙ at.invariant.same_shape;
-      told = done.told ∙ at.invariant.told;
-      began = λ told. done.began (subst (λ (told : Bool). IsTrue told) (sym at.invariant.told) told) ∙ at.invariant.began told;
-      text = text_next c.args.live.now.plain at.live.plain at.yielded line c.command_of.result c.args.out.now.items at.out.items c.play_command.new.out.items c.command_of.ensures at.invariant.plain at.invariant.text done.text;
-      plain = plain_next c.args.live.now.plain at.live.plain c.play_command.new.live.plain at.yielded line c.command_of.result c.command_of.ensures at.invariant.plain done.plain;
-      group = group_next c.args.live.now.root.tree.group at.live.root.tree.group c.play_command.new.live.root.tree.group at.yielded line c.command_of.result c.command_of.ensures at.invariant.group done.group;
-      steady = subst (λ (shape : Shape). IsSteady shape c.play_command.new.live) at.invariant.same_shape done.steady;
-      goes =
-          goes_next {X = Unit {0}} {Y = Unit {0}} (g.D.DiskSet.shape c.args.disks.now) (g.D.DiskSet.shape at.disks) (g.D.DiskSet.tape c.args.disks.now) (g.D.DiskSet.tape at.disks) (g.D.DiskSet.tape c.play_command.new.disks)
-          c.args.live.now at.live c.play_command.new.live at.yielded line c.command_of.result unit (Ok unit) c.command_of.ensures at.invariant.same_shape at.invariant.goes done.goes;
-      later = le_trans at.invariant.later done.later;
+      conditions = (subst (λ (lines : List Line). AllByRecursion (λ (line : Line). MeetsAct line.act) lines) steps at.invariant.conditions).1;
+      goes = goes_then g.D.DiskSet.shape g.D.DiskSet.tape g.D.DiskSet.faults c.args.pool.now at.pool c.play_line.new.pool at.invariant.goes c.play_line.ensures.goes;
+      is_pool = c.play_line.ensures.pool;
+      quiet = c.in-Ok.ensures.quiet;
+      adds = lines_and_line at.yielded line at.pool.kept.history c.play_line.new.pool.kept.history at.out.items c.play_line.new.out.items at.invariant.adds c.in-Ok.ensures.adds;
     }
 
 pub returns-in-Err-clause-goes : goal.returns-in-Err-clause-goes
 returns-in-Err-clause-goes g c =
+    goes_then g.D.DiskSet.shape g.D.DiskSet.tape g.D.DiskSet.faults c.args.pool.now c.loop-line.pool c.play_line.new.pool c.loop-line.invariant.goes c.play_line.ensures.goes
+
+pub returns-in-Err-clause-asked : goal.returns-in-Err-clause-asked
+returns-in-Err-clause-asked g c last =
     let at = c.loop-line in
     let line = c.in-Some.line in
-    let steps : into_iter_items at.line-iterator ≡ line ∷ into_iter_items c.next.new.self = c.in-Some.ensures.steps.0 in
-    goes_stopped (Unit {0}) (Unit {0}) (g.D.DiskSet.shape c.args.disks.now) (g.D.DiskSet.shape at.disks) (g.D.DiskSet.tape c.args.disks.now) (g.D.DiskSet.tape at.disks) (g.D.DiskSet.tape c.play_command.new.disks)
-    c.args.live.now at.live c.play_command.new.live at.yielded line c.command_of.result (into_iter_items c.next.new.self) c.args.lines.items tt c.in-Err.fault c.command_of.ensures at.invariant.same_shape at.invariant.goes c.in-Err.ensures.goes
-    (ap (λ (lines : List Line). at.yielded ++ lines) (sym steps) ∙ at.invariant.parts ∙ c.into_iter-line-iterator.ensures.into_iter_gives.0)
+    let rest = into_iter_items c.next.new.self in
+    let steps : into_iter_items at.line-iterator ≡ line ∷ rest = c.in-Some.ensures.steps.0 in
+    let all : at.yielded ++ line ∷ rest ≡ c.args.lines.items =
+    ap (λ (lines : List Line). at.yielded ++ lines) (sym steps) ∙ at.invariant.parts ∙ c.into_iter-line-iterator.ensures.into_iter_gives.0 in
+    subst (λ (lines : List Line). IsFront (askings_in c.play_line.new.pool.kept.history) (askings_before lines last)) all
+    (front_in_line at.yielded line rest at.pool.kept.history c.play_line.new.pool.kept.history at.out.items last at.invariant.adds c.play_line.ensures.asked)
+
+pub returns-clause-adds : goal.returns-clause-adds
+returns-clause-adds g c =
+    let at = c.loop-line in
+    let none = c.in-None.ensures.steps in
+    let empty : into_iter_items at.line-iterator ≡ [] = nothing_left (into_iter_items at.line-iterator) (sym at.invariant.count ∙ none.0) in
+    let all : at.yielded ≡ c.args.lines.items =
+    sym (append-nil at.yielded)
+    ∙ ap (λ (lines : List Line). at.yielded ++ lines) (sym empty)
+    ∙ at.invariant.parts
+    ∙ c.into_iter-line-iterator.ensures.into_iter_gives.0 in
+    subst (λ (lines : List Line). AddsLines lines at.pool.kept.history at.out.items) all at.invariant.adds

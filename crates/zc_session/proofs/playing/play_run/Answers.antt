@@ -1,52 +1,43 @@
-use Rattle.std.proofs.Common.{◌≡◌, ◌∙◌, ℕ, ◌+◌, List, [], ◌∷◌, ◌++◌, length, Ok, ap, subst, arith}
-use Rattle.std.proofs.lemmas.Result.{IfOk-weaker}
-use Rattle.zc_tape.specs.Tape.{Shape}
+-- The lines, and then the last commit.
+use Rattle.std.proofs.Common.{◌∷◌, [], List, sym, subst}
+use Rattle.std.specs.List.{AllByRecursion}
 use Rattle.zc_command.specs.declared.command.Command.TheVariants.{Commit}
 use Rattle.zc_script.specs.declared.act.Line.{Line}
-use Rattle.zc_plain.specs.History.{PlainState}
-use Rattle.zc_session.specs.Played.{commands_of, replies_to, end_line, commit_ends, run_of}
-use Rattle.zc_session.specs.Midway.{Goes}
+use Rattle.zc_session.specs.Played.{askings_in, run_of, last_session, AddsLines}
+use Rattle.zc_session.specs.Survives.{IsFront}
+use Rattle.zc_session.specs.Midway.{asking, MeetsAct}
+use Rattle.zc_session.proofs.EntryLaws.{acts_meet, front_at_end}
 use Rattle.zc_session.proofs.GoesLaws.{goes_then}
-use Rattle.zc_session.proofs.RepliesLaws.{entries_behind_lines, few_commits_of_lines, commits_of_run}
+use Rattle.zc_session.proofs.EndLaws.{new_is_quiet, has_ended}
 use Rattle.zc_session.proofs.playing.play_run.Goals as goal
 
-pub play_end-requires-clause-entries : goal.play_end-requires-clause-entries
-play_end-requires-clause-entries g c =
-    let same = ap length c.into_vec.ensures in
-    let entries : c.play_lines.new.live.plain.entries ≡ c.args.live.now.plain.entries + length c.into_vec.result.items =
-    ap (λ (state : PlainState). state.entries) c.in-Ok.ensures.plain ∙ entries_behind_lines c.args.live.now.plain c.into_vec.result.items in
-    omega (arith, c.requires.entries)
+pub play_lines-requires-clause-quiet : goal.play_lines-requires-clause-quiet
+play_lines-requires-clause-quiet g c = new_is_quiet c.args.pool.now.kept c.requires.begins
 
-pub play_end-requires-clause-group : goal.play_end-requires-clause-group
-play_end-requires-clause-group g c =
-    let same = ap length c.into_vec.ensures in
-    let group = c.in-Ok.ensures.group in
-    omega (arith, c.requires.group, few_commits_of_lines c.into_vec.result.items)
-
-pub returns-in-Ok-clause-text : goal.returns-in-Ok-clause-text
-returns-in-Ok-clause-text g c =
-    let same : c.into_vec.result.items ≡ c.args.lines = c.into_vec.ensures in
-    let group : c.play_lines.new.live.root.tree.group + 1 ≡ c.args.live.now.root.tree.group + length (commit_ends 0 (run_of c.args.lines)) =
-    let so_far : c.play_lines.new.live.root.tree.group ≡ c.args.live.now.root.tree.group + length (commit_ends 0 (commands_of c.args.lines)) =
-    c.in-Ok.ensures.group ∙ ap (λ (lines : List Line). c.args.live.now.root.tree.group + length (commit_ends 0 (commands_of lines))) same in
-    let one = commits_of_run c.args.lines in
-    omega arith in
-    let replies : c.play_lines.new.out.items ≡ replies_to c.args.live.now.plain (commands_of c.args.lines) =
-    c.in-Ok.ensures.text ∙ ap (λ (text : List ℕ). text ++ replies_to c.args.live.now.plain (commands_of c.into_vec.result.items)) c.new-out.ensures.items
-    ∙ ap (λ (lines : List Line). replies_to c.args.live.now.plain (commands_of lines)) same in
-    IfOk-weaker c.play_end.result _ _
-    (λ text is. is ∙ ap (λ (n : ℕ). c.play_lines.new.out.items ++ end_line c.args.name.now n) group
-    ∙ ap (λ (replies : List ℕ). replies ++ end_line c.args.name.now (c.args.live.now.root.tree.group + length (commit_ends 0 (run_of c.args.lines)))) replies)
-    c.play_end.ensures.text
+pub play_lines-requires-clause-conditions : goal.play_lines-requires-clause-conditions
+play_lines-requires-clause-conditions g c =
+    subst (λ (lines : List Line). AllByRecursion (λ (line : Line). MeetsAct line.act) lines) (sym c.into_vec.ensures) (acts_meet c.args.lines c.requires.acts)
 
 pub returns-in-Ok-clause-goes : goal.returns-in-Ok-clause-goes
 returns-in-Ok-clause-goes g c =
-    let shape = g.D.DiskSet.shape c.args.disks.now in
-    let tape = g.D.DiskSet.tape in
-    let done : Unit {0} = tt in
-    goes_then shape (tape c.args.disks.now) (tape c.play_lines.new.disks) (tape c.play_end.new.disks) c.args.live.now c.play_lines.new.live c.play_end.new.live
-    (commands_of c.args.lines) (Commit ∷ []) done c.play_end.result
-    (subst (λ (lines : List Line). Goes {X = Unit {0}} shape (tape c.args.disks.now) (tape c.play_lines.new.disks) c.args.live.now c.play_lines.new.live (commands_of lines) (Ok done))
-    c.into_vec.ensures c.in-Ok.ensures.goes)
-    (subst (λ (shape : Shape). Goes shape (tape c.play_lines.new.disks) (tape c.play_end.new.disks) c.play_lines.new.live c.play_end.new.live (Commit ∷ []) c.play_end.result)
-    c.in-Ok.ensures.shape c.play_end.ensures.goes)
+    goes_then g.D.DiskSet.shape g.D.DiskSet.tape g.D.DiskSet.faults c.args.pool.now c.play_lines.new.pool c.play_end.new.pool c.play_lines.ensures.goes c.play_end.ensures.goes
+
+pub returns-in-Ok-clause-ended : goal.returns-in-Ok-clause-ended
+returns-in-Ok-clause-ended g c =
+    let mid = c.play_lines.new.pool.kept in
+    let new = c.play_end.new.pool in
+    has_ended c.args.name.now c.args.lines new.root.tree.group mid.history new.kept c.play_lines.new.out.items c.play_end.result
+    (subst (λ (lines : List Line). AddsLines lines mid.history c.play_lines.new.out.items) c.into_vec.ensures c.in-Ok.ensures.adds)
+    c.play_end.ensures.adds c.play_end.ensures.quiet
+
+pub returns-in-Ok-clause-asked : goal.returns-in-Ok-clause-asked
+returns-in-Ok-clause-asked g c =
+    let mid = c.play_lines.new.pool.kept in
+    front_at_end c.args.lines mid.history c.play_end.new.pool.kept.history c.play_lines.new.out.items
+    (subst (λ (lines : List Line). AddsLines lines mid.history c.play_lines.new.out.items) c.into_vec.ensures c.in-Ok.ensures.adds)
+    c.play_end.ensures.asked
+
+pub returns-in-Err-clause-asked : goal.returns-in-Err-clause-asked
+returns-in-Err-clause-asked g c =
+    subst (λ (lines : List Line). IsFront (askings_in c.play_lines.new.pool.kept.history) (run_of lines)) c.into_vec.ensures
+    (c.in-Err.ensures.asked (asking last_session Commit ∷ []))
