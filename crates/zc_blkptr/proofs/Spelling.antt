@@ -52,7 +52,7 @@ one_slot devices places Hole (At other) fits other_fits same = absurd (ptr_is_no
 one_slot devices places (At ptr) Hole fits other_fits same = absurd (ptr_is_no_hole ptr fits.widths fits.written same)
 one_slot devices places (At ptr) (At other) fits other_fits same = ap At (one_ptr ptr other fits.widths other_fits.widths same)
 
--- what is written piece by piece, each behind the one before
+-- what is written piece by piece, each after the one before
 pub five_written : (ptr : Ptr) (a b c d before first second third fourth : List ℕ)
     → a ≡ u32_bytes ptr.device → b ≡ u32_bytes ptr.place → c ≡ u64_bytes ptr.logical → d ≡ u64_bytes ptr.physical
     → take (0 + length a) first ≡ take 0 before ++ a → take (4 + length b) second ≡ take 4 first ++ b

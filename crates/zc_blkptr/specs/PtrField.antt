@@ -5,7 +5,7 @@ use Rattle.zc_wire.specs.Numbers.{u32_of, u64_of}
 use Rattle.zc_wire.specs.Fields.{Read, ◌>>=◌, bytes_field, rule}
 use Rattle.zc_blkptr.specs.declared.ptr.Ptr.{Ptr}
 
--- the pointer whose fields stand in 40 bytes, each behind the one before, whether or not a pool has it
+-- the pointer whose fields stand in 40 bytes, each after the one before, whether or not a pool has it
 unfoldable pub ptr_in : List ℕ → Ptr
 ptr_in bytes = record {
   device = u32_of bytes;

@@ -9,8 +9,6 @@
 mod digest;
 mod ptr;
 mod reading;
-#[cfg(test)]
-mod tests;
 mod writing;
 
 pub use digest::{digest_of, matches};

@@ -17,7 +17,7 @@ pub struct Ptr {
 /// What a block of a file is.
 #[derive(Clone, Copy, Debug, PartialEq, Eq)]
 pub enum Slot {
-    /// Zeros, with no block behind them.
+    /// Zeros, with no block after them.
     Hole,
     /// The block that the pointer names.
     At(Ptr),

@@ -1,7 +1,7 @@
 // The slot that bytes spell.
 ghost use Rattle.std.specs.Prelude.{◌≡◌, ◌↔◌, length, IfOk, IsOk, IsErr, IsTrue};
 ghost use Rattle.zc_blkptr.specs.declared.ptr.Slot.{Slot};
-ghost use Rattle.zc_wire.specs.Fields.{Gives};
+ghost use Rattle.zc_wire.specs.Fields.{FieldGives};
 ghost use Rattle.zc_blkptr.specs.Ptr.{ptr_bytes, hole_bytes, slot_bytes, HasWidths, IsPtr, IsSlot};
 ghost use Rattle.zc_blkptr.specs.PtrField.{ptr_in, is_ptr, ptr_field};
 
@@ -32,10 +32,10 @@ pub fn decode(bytes: &[u8; 40], limits: &Limits) -> Result<Slot, BadPtr>
     }
 }
 
-/// A pointer that a pool of this size may have, which is no hole, and the bytes behind it. All its bytes are one field.
+/// A pointer that a pool of this size may have, which is no hole, and the bytes after it. All its bytes are one field.
 #[tactic(auto, unfolding(crate::specs::PtrField::ptr_field))]
 pub fn ptr_field<'a>(bytes: &'a [u8], limits: &Limits) -> Result<(Ptr, &'a [u8]), FieldFault>
-    ensures { Gives (λ x. (x.0, x.1.now)) result (ptr_field limits.now.devices limits.now.places bytes.now) }
+    ensures { FieldGives (λ x. (x.0, x.1.now)) result (ptr_field limits.now.devices limits.now.places bytes.now) }
 {
     let (whole, rest) = bytes_field(bytes, 40)?;
     let ptr = raw_ptr(whole);

@@ -34,7 +34,7 @@ fn encode_ptr(ptr: &Ptr, out: &mut [u8; 40])
     put_digest(out, &ptr.digest);
 }
 
-// Writes bytes behind the first `from` of `out`. What stands behind them is not said.
+// Writes bytes after the first `from` of `out`. What stands after them is not said.
 fn put(out: &mut [u8; 40], from: usize, bytes: &[u8])
     requires { from + length bytes.now ≤ 40 }
     ensures { take (from + length bytes.now) out.new ≡ take from out.old ++ bytes.now }
@@ -42,7 +42,7 @@ fn put(out: &mut [u8; 40], from: usize, bytes: &[u8])
     out[from..from + bytes.len()].copy_from_slice(bytes);
 }
 
-// Writes a digest behind the first 24 bytes.
+// Writes a digest after the first 24 bytes.
 fn put_digest(out: &mut [u8; 40], digest: &[u8; 16])
     ensures { out.new ≡ take 24 out.old ++ digest.now }
 {

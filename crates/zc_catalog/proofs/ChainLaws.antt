@@ -1,4 +1,4 @@
--- The blocks of a chain: how they are written, what they name, and that the bytes behind their names are the catalogue's.
+-- The blocks of a chain: how they are written, what they name, and that the bytes after their names are the catalogue's.
 use Rattle.std.proofs.Common.{min, ◌≡◌, ◌∙◌, ℕ, suc, ◌+◌, ◌-◌, ◌*◌, ◌^◌, ◌<◌, ◌≤◌, Bool, true, false, cond, ◌&&◌, eqb, List, [], ◌∷◌, ◌++◌, length, take, drop, replicate, get_or, Option, Some, None, refl, sym, ap, append_assoc, length-append, arith, ⊎_elim, lit<}
 use Rattle.std.specs.List.{flat_map, AllByRecursion}
 use Rattle.std.proofs.lemmas.Bool.{cases_lt, cases_Bool, eqb-true, eq-eqb, and_parts, and_from}
@@ -12,7 +12,7 @@ use Rattle.zc_catalog.specs.Chain.{chain_length, place_bytes, end_mark, last_lin
 
 -- ---- how a block is written
 
--- a text over the zeros behind a front
+-- a text over the zeros after a front
 over_zeros : (front text : List ℕ) (from n : ℕ) → length front ≡ from → edited (front ++ replicate n 0) from text ≡ (front ++ text) ++ replicate (n - length text) 0
 over_zeros front text from n len =
     let before : take from (front ++ replicate n 0) ≡ front = take_at front (replicate n 0) from len in
@@ -20,7 +20,7 @@ over_zeros front text from n len =
     sym (drop-drop (length text) from (front ++ replicate n 0)) ∙ ap (drop (length text)) (drop_at front (replicate n 0) from len) ∙ drop-replicate (length text) n 0 in
     (λ i. before i ++ (text ++ behind i)) ∙ sym (append_assoc front text (replicate (n - length text) 0))
 
--- three texts, each behind the one before
+-- three texts, each after the one before
 pub three_written : (first second third b1 b2 b3 : List ℕ) → length first ≡ 4 → length second ≡ 4
     → b1 ≡ edited blank 0 first → b2 ≡ edited b1 4 second → b3 ≡ edited b2 8 third → b3 ≡ (first ++ second) ++ (third ++ replicate (4088 - length third) 0)
 unfolding blank
@@ -39,7 +39,7 @@ link_written next bytes device place front b1 b2 b3 device_is place_is front_is 
     let zeros : 4088 - length front ≡ 4088 - length bytes = omega (arith, ap length front_is, length-take 4088 bytes) in
     written ∙ (λ i. (device_is i ++ place_is i) ++ (front_is i ++ replicate (zeros i) 0))
 
--- the bytes that a block holds, and those behind them
+-- the bytes that a block holds, and those after them
 pub taken_block : (bytes : List ℕ) (k : ℕ) → k ≡ min (length bytes) 4088 → take k bytes ≡ take 4088 bytes
 taken_block bytes k is =
     ⊎_elim
@@ -58,7 +58,7 @@ dropped_block bytes k is =
     (λ (long : 4088 ≤ length bytes). let same : k ≡ 4088 = omega (arith, is) in ap (λ (n : ℕ). drop n bytes) same)
     (cases_lt (length bytes) 4088)
 
--- what is written is the block with these places behind its own
+-- what is written is the block with these places after its own
 pub written_before : (places : List PlaceAt) (bytes : List ℕ) → length places + 1 ≡ chain_length (length bytes)
     → place_bytes (mark_before places) ++ (take 4088 bytes ++ replicate (4088 - length bytes) 0) ≡ link_before places bytes
 unfolding last_link inner_link end_mark
@@ -67,18 +67,18 @@ written_before (next ∷ places) bytes fits =
     let none : 4088 - length bytes ≡ 0 = omega (arith, fits) in
     ap (λ (k : ℕ). place_bytes next ++ (take 4088 bytes ++ replicate k 0)) none ∙ ap (λ (t : List ℕ). place_bytes next ++ t) (append-nil (take 4088 bytes))
 
--- ---- the blocks one behind the other
+-- ---- the blocks one after the other
 
 -- one more block is made
 pub links_go_on : (i : ℕ) (at : List PlaceAt) (made : List (List ℕ)) (block rest back : List ℕ) (behind : List PlaceAt) (total : List (List ℕ)) → i < length at
     → behind ≡ drop (i + 1) at → back ≡ drop 4088 rest → block ≡ link_before behind rest
     → made ++ links (drop i at) rest ≡ total → (made ++ block ∷ []) ++ links (drop (i + 1) at) back ≡ total
-links_go_on i [] made block rest back behind total lt behind_is back_is block_is so_far = absurd (omega arith)
-links_go_on i (first ∷ at) made block rest back behind total lt behind_is back_is block_is so_far =
+links_go_on i [] made block rest back behind total lt later_is back_is block_is so_far = absurd (omega arith)
+links_go_on i (first ∷ at) made block rest back behind total lt later_is back_is block_is so_far =
     let here : PlaceAt = get_or (first ∷ at) i first in
     let one : links (drop i (first ∷ at)) rest ≡ link_before (drop (i + 1) (first ∷ at)) rest ∷ links (drop (i + 1) (first ∷ at)) (drop 4088 rest) =
     ap (λ (ps : List PlaceAt). links ps rest) (drop_more (first ∷ at) i first lt) in
-    let block_now : block ≡ link_before (drop (i + 1) (first ∷ at)) rest = block_is ∙ ap (λ (ps : List PlaceAt). link_before ps rest) behind_is in
+    let block_now : block ≡ link_before (drop (i + 1) (first ∷ at)) rest = block_is ∙ ap (λ (ps : List PlaceAt). link_before ps rest) later_is in
     append_assoc made (block ∷ []) (links (drop (i + 1) (first ∷ at)) back)
     ∙ (λ j. made ++ block_now j ∷ links (drop (i + 1) (first ∷ at)) (back_is j))
     ∙ ap (λ (bs : List (List ℕ)). made ++ bs) (sym one) ∙ so_far
@@ -88,9 +88,9 @@ pub links_done : (i : ℕ) (at : List PlaceAt) (made : List (List ℕ)) (rest : 
 links_done i at made rest total past so_far =
     sym (append-nil made) ∙ ap (λ (ps : List PlaceAt). made ++ links ps rest) (sym (drop_all i at past)) ∙ so_far
 
--- the bytes behind a block take the places behind its own
-behind_fits : (places : List PlaceAt) (bytes : List ℕ) → length places + 1 ≡ chain_length (length bytes) → length places ≡ chain_length (length (drop 4088 bytes))
-behind_fits places bytes fits = omega (arith, length-drop 4088 bytes)
+-- the bytes after a block take the places after its own
+after_fits : (places : List PlaceAt) (bytes : List ℕ) → length places + 1 ≡ chain_length (length bytes) → length places ≡ chain_length (length (drop 4088 bytes))
+after_fits places bytes fits = omega (arith, length-drop 4088 bytes)
 
 -- there are as many blocks as places
 pub links_length : (at : List PlaceAt) (bytes : List ℕ) → length (links at bytes) ≡ length at
@@ -114,15 +114,15 @@ pub links_whole : (at : List PlaceAt) (bytes : List ℕ) → length at ≡ chain
 links_whole [] bytes fits = tt
 links_whole (first ∷ places) bytes fits =
     let one : length places + 1 ≡ chain_length (length bytes) = omega (arith, fits) in
-    (link_length places bytes one, links_whole places (drop 4088 bytes) (behind_fits places bytes one))
+    (link_length places bytes one, links_whole places (drop 4088 bytes) (after_fits places bytes one))
 
--- what a block holds behind the place that it names
+-- what a block holds after the place that it names
 pub link_holds : (places : List PlaceAt) (bytes : List ℕ) → length places + 1 ≡ chain_length (length bytes) → drop 8 (link_before places bytes) ≡ take 4088 bytes ++ replicate (4088 - length bytes) 0
 link_holds places bytes fits =
     ap (drop 8) (sym (written_before places bytes fits))
     ∙ drop_at (place_bytes (mark_before places)) (take 4088 bytes ++ replicate (4088 - length bytes) 0) 8 (place_bytes_length (mark_before places))
 
--- what the blocks hold, one behind the other, is the catalogue and zeros behind it
+-- what the blocks hold, one after the other, is the catalogue and zeros after it
 pub joined : (at : List PlaceAt) (bytes : List ℕ) → length at ≡ chain_length (length bytes) → flat_map (drop 8) (links at bytes) ≡ bytes ++ replicate (4088 * length at - length bytes) 0
 joined [] bytes fits =
     let none : bytes ≡ [] = nil_from_length bytes (omega (arith, fits)) in
@@ -133,7 +133,7 @@ joined (first ∷ []) bytes fits =
     append-nil (drop 8 (link_before [] bytes)) ∙ link_holds [] bytes one ∙ ap (λ (t : List ℕ). t ++ replicate (4088 - length bytes) 0) all
 joined (first ∷ (next ∷ places)) bytes fits =
     let one : length (next ∷ places) + 1 ≡ chain_length (length bytes) = omega (arith, fits) in
-    let more = joined (next ∷ places) (drop 4088 bytes) (behind_fits (next ∷ places) bytes one) in
+    let more = joined (next ∷ places) (drop 4088 bytes) (after_fits (next ∷ places) bytes one) in
     let none : 4088 - length bytes ≡ 0 = omega (arith, fits) in
     let zeros : 4088 * length (next ∷ places) - length (drop 4088 bytes) ≡ 4088 * length (first ∷ (next ∷ places)) - length bytes = omega (arith, length-drop 4088 bytes, fits) in
     let held : drop 8 (link_before (next ∷ places) bytes) ≡ take 4088 bytes =
@@ -207,7 +207,7 @@ begins block long fits =
     u32_front block (omega arith) fits ∙ ap (λ (t : List ℕ). u32_bytes (u32_of block) ++ t) (second ∙ ap (λ (t : List ℕ). u32_bytes (u32_of back) ++ t) (drop-drop 4 4 block))
     ∙ sym (append_assoc (u32_bytes (u32_of block)) (u32_bytes (u32_of back)) (drop 8 block))
 
--- where a block names a next place, it is the block that names that place and holds the bytes behind the name
+-- where a block names a next place, it is the block that names that place and holds the bytes after the name
 pub inner_again : (block : List ℕ) (next : PlaceAt) → length block ≡ 4096 → IsBytes block → next_in block ≡ Some next → block ≡ inner_link next (drop 8 block)
 unfolding inner_link
 inner_again block next whole fits e =

@@ -1,7 +1,7 @@
--- Reading and writing the parts of a catalogue one behind the other, as loops do.
+-- Reading and writing the parts of a catalogue one after the other, as loops do.
 use Rattle.std.proofs.Common.{◌≡◌, ◌∙◌, ℕ, suc, ◌+◌, ◌-◌, ◌<◌, ◌≤◌, List, [], ◌∷◌, ◌++◌, length, drop, map, Ok, Err, refl, sym, ap, append_assoc, arith}
 use Rattle.std.proofs.lemmas.List.{append-nil, drop_all}
-use Rattle.zc_wire.specs.Fields.{Read, ◌>>=◌, Fails}
+use Rattle.zc_wire.specs.Fields.{Read, ◌>>=◌, FieldFails}
 use Rattle.zc_wire.specs.declared.fields.FieldFault.{FieldFault}
 use Rattle.zc_wire.specs.declared.fields.FieldFault.TheVariants as field
 use Rattle.zc_table.specs.declared.plain.PlainTable.{PlainTable}
@@ -11,7 +11,7 @@ use Rattle.zc_table.specs.Plain.{counts_of}
 use Rattle.zc_table.specs.TableBytes.{table_bytes}
 use Rattle.zc_spacemap.specs.declared.bit_map.BitMap.{BitMap}
 use Rattle.zc_spacemap.specs.declared.stored.StoredMap.{StoredMap}
-use Rattle.zc_spacemap.specs.Held.{states_of}
+use Rattle.zc_spacemap.specs.MapStates.{states_of}
 use Rattle.zc_spacemap.specs.MapBytes.{map_bytes, kept_places}
 use Rattle.zc_tree.specs.declared.tree.Dataset.{Dataset}
 use Rattle.zc_tree.specs.Reading.{dataset_field}
@@ -37,8 +37,8 @@ datasets_go_on devices places group next_dataset number i front others bytes aft
 
 -- a dataset is refused
 pub datasets_end : (fault : FieldFault) (devices places group next_dataset number i : ℕ) (front others : List Dataset) (bytes : List ℕ) (total : Read (List Dataset)) → i < number → others ≡ front
-    → Fails fault (dataset_field devices places group next_dataset others bytes)
-    → with_front front (datasets_field devices places group next_dataset (number - i) front bytes) ≡ total → Fails fault total
+    → FieldFails fault (dataset_field devices places group next_dataset others bytes)
+    → with_front front (datasets_field devices places group next_dataset (number - i) front bytes) ≡ total → FieldFails fault total
 unfolding datasets_field
 datasets_end field.NoMemory devices places group next_dataset number i front others bytes total lt same read so_far = tt
 datasets_end (field.Bad left) devices places group next_dataset number i front others bytes total lt same read so_far =
@@ -86,8 +86,8 @@ devices_go_on devices places number i tables maps bytes after table free total l
 
 -- a device is refused
 pub devices_end : (fault : FieldFault) (devices places number i : ℕ) (tables : List StoredTable) (maps : List StoredMap) (bytes : List ℕ) (total : Read (List StoredTable × List StoredMap)) → i < number
-    → Fails fault (device_field devices places i bytes)
-    → with_fronts tables maps (devices_field devices places (number - i) i bytes) ≡ total → Fails fault total
+    → FieldFails fault (device_field devices places i bytes)
+    → with_fronts tables maps (devices_field devices places (number - i) i bytes) ≡ total → FieldFails fault total
 unfolding devices_field
 devices_end field.NoMemory devices places number i tables maps bytes total lt h so_far = tt
 devices_end (field.Bad left) devices places number i tables maps bytes total lt h so_far =

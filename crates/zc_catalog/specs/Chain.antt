@@ -23,12 +23,12 @@ last_link bytes = end_mark ++ (bytes ++ replicate (4088 - length bytes) 0)
 unfoldable pub inner_link : PlaceAt → List ℕ → List ℕ
 inner_link next bytes = place_bytes next ++ take 4088 bytes
 
--- a block, with these places behind its own
+-- a block, with these places after its own
 abbrev pub link_before : List PlaceAt → List ℕ → List ℕ
 link_before [] bytes = last_link bytes
 link_before (next ∷ places) bytes = inner_link next bytes
 
--- the place that a block names that has these places behind its own
+-- the place that a block names that has these places after its own
 abbrev pub mark_before : List PlaceAt → PlaceAt
 mark_before [] = record { device = 4294967295; place = 4294967295 }
 mark_before (next ∷ places) = next

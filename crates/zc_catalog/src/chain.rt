@@ -1,7 +1,7 @@
 // The form of the catalogue that writes all of it.
 ghost use Rattle.std.specs.Prelude.{map};
 ghost use Rattle.zc_table.specs.Plain.{counts_of};
-ghost use Rattle.zc_spacemap.specs.Held.{states_of};
+ghost use Rattle.zc_spacemap.specs.MapStates.{states_of};
 
 use crate::reading::read_whole;
 use crate::writing::put_catalogue;

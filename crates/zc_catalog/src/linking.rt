@@ -25,12 +25,12 @@ pub fn link(alloc: Global, bytes: &[u8], at: &[PlaceAt]) -> Result<Vec<Boxed<[u8
     let mut rest = bytes;
     for index in 0..at.len() {
         made.push(block_before(alloc, behind(at, index), rest)?)?;
-        rest = cut(rest).1;
+        rest = split_part(rest).1;
     }
     Ok(made)
 }
 
-// The places behind the one at `index`.
+// The places after the one at `index`.
 fn behind(at: &[PlaceAt], index: usize) -> &[PlaceAt]
     requires { index < length at.now }
     ensures { result.now ≡ drop (index + 1) at.now }
@@ -38,9 +38,9 @@ fn behind(at: &[PlaceAt], index: usize) -> &[PlaceAt]
     at.split_at(index + 1).1
 }
 
-// The bytes that a block holds, and those behind them.
+// The bytes that a block holds, and those after them.
 #[tactic(auto, using(crate::proofs::ChainLaws::taken_block, crate::proofs::ChainLaws::dropped_block))]
-fn cut(bytes: &[u8]) -> (&[u8], &[u8])
+fn split_part(bytes: &[u8]) -> (&[u8], &[u8])
     ensures front { result.0.now ≡ take 4088 bytes.now }
     ensures back { result.1.now ≡ drop 4088 bytes.now }
     ensures few { length result.0.now ≤ 4088 }
@@ -48,7 +48,7 @@ fn cut(bytes: &[u8]) -> (&[u8], &[u8])
     bytes.split_at(bytes.len().min(4088))
 }
 
-// The block that these bytes begin, with these places behind its own.
+// The block that these bytes begin, with these places after its own.
 #[tactic(auto, using(crate::proofs::ChainLaws::written_before))]
 fn block_before(
     alloc: Global,
@@ -71,7 +71,7 @@ fn blank() -> [u8; 4096]
     [0u8; 4096]
 }
 
-// The place that a block names that has these places behind its own.
+// The place that a block names that has these places after its own.
 fn next_before(places: &[PlaceAt]) -> PlaceAt
     ensures { result ≡ mark_before places.now }
 {
@@ -88,10 +88,10 @@ fn write_link(block: &mut [u8; 4096], next: &PlaceAt, bytes: &[u8])
 {
     edit_block(block, 0, &bytes_of_u32(next.device));
     edit_block(block, 4, &bytes_of_u32(next.place));
-    edit_block(block, 8, cut(bytes).0);
+    edit_block(block, 8, split_part(bytes).0);
 }
 
-/// Where the block behind this one of a chain stands; `None` exactly at the end mark.
+/// Where the block after this one of a chain stands; `None` exactly at the end mark.
 pub fn next_of(block: &[u8; 4096]) -> Option<PlaceAt>
     ensures { result ≡ next_in block.now }
 {

@@ -1,6 +1,6 @@
 // The catalogue that bytes spell.
 ghost use Rattle.std.specs.Prelude.{◌≡◌, [], length};
-ghost use Rattle.zc_wire.specs.Fields.{Gives};
+ghost use Rattle.zc_wire.specs.Fields.{FieldGives};
 ghost use Rattle.zc_tree.specs.Catalogue.{catalogue_bytes, AreParts};
 ghost use Rattle.zc_tree.specs.CatalogueReading.{datasets_field, device_field, devices_field, catalogue_field, AnswersWhole, ReadsWhole};
 
@@ -27,7 +27,7 @@ pub fn read_whole(
     }
 }
 
-// The catalogue, behind which there is nothing.
+// The catalogue, after which there is nothing.
 #[tactic(auto, unfolding(zc_tree::specs::CatalogueReading::catalogue_field))]
 fn catalogue_field(
     alloc: Global,
@@ -36,7 +36,7 @@ fn catalogue_field(
     group: u64,
     next_dataset: u64,
 ) -> Result<Parts, FieldFault>
-    ensures { Gives (λ parts. (parts, [])) result (catalogue_field limits.now.devices limits.now.places group next_dataset bytes.now) }
+    ensures { FieldGives (λ parts. (parts, [])) result (catalogue_field limits.now.devices limits.now.places group next_dataset bytes.now) }
 {
     let (number, at_datasets) = u32_field(bytes)?;
     rule(number <= 8, bytes)?;
@@ -58,7 +58,7 @@ fn catalogue_field(
     Ok(Parts { tree, tables, maps })
 }
 
-// So many datasets, each behind those before it.
+// So many datasets, each after those before it.
 fn datasets_field<'a>(
     alloc: Global,
     bytes: &'a [u8],
@@ -67,7 +67,7 @@ fn datasets_field<'a>(
     next_dataset: u64,
     number: u32,
 ) -> Result<(Listed<Dataset>, &'a [u8]), FieldFault>
-    ensures { Gives (λ x. (x.0, x.1.now)) result (datasets_field limits.now.devices limits.now.places group next_dataset number [] bytes.now) }
+    ensures { FieldGives (λ x. (x.0, x.1.now)) result (datasets_field limits.now.devices limits.now.places group next_dataset number [] bytes.now) }
 {
     let mut datasets = Listed::new(alloc);
     let mut rest = bytes;
@@ -92,7 +92,7 @@ fn devices_field<'a>(
     bytes: &'a [u8],
     limits: &Limits,
 ) -> Result<((Listed<StoredTable>, Listed<StoredMap>), &'a [u8]), FieldFault>
-    ensures { Gives (λ x. ((x.0.0, x.0.1), x.1.now)) result (devices_field limits.now.devices limits.now.places limits.now.devices 0 bytes.now) }
+    ensures { FieldGives (λ x. ((x.0.0, x.0.1), x.1.now)) result (devices_field limits.now.devices limits.now.places limits.now.devices 0 bytes.now) }
 {
     let mut tables = Listed::new(alloc);
     let mut maps = Listed::new(alloc);
@@ -114,7 +114,7 @@ fn device_field<'a>(
     limits: &Limits,
     device: u32,
 ) -> Result<((StoredTable, StoredMap), &'a [u8]), FieldFault>
-    ensures { Gives (λ x. ((x.0.0, x.0.1), x.1.now)) result (device_field limits.now.devices limits.now.places device bytes.now) }
+    ensures { FieldGives (λ x. ((x.0.0, x.0.1), x.1.now)) result (device_field limits.now.devices limits.now.places device bytes.now) }
 {
     let (table, at_map) = table_field(alloc, bytes, limits, device)?;
     let (map, rest) = map_field(alloc, at_map, limits.places())?;

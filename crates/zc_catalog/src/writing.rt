@@ -5,7 +5,7 @@ ghost use Rattle.zc_wire.specs.Numbers.{u32_bytes};
 ghost use Rattle.zc_table.specs.Counts.{stored_of};
 ghost use Rattle.zc_table.specs.Plain.{counts_of};
 ghost use Rattle.zc_table.specs.TableBytes.{table_bytes};
-ghost use Rattle.zc_spacemap.specs.Held.{states_of};
+ghost use Rattle.zc_spacemap.specs.MapStates.{states_of};
 ghost use Rattle.zc_spacemap.specs.MapBytes.{map_bytes, kept_places};
 ghost use Rattle.zc_tree.specs.Spelling.{dataset_bytes, HasDatasetWidths};
 ghost use Rattle.zc_tree.specs.Catalogue.{devices_bytes, catalogue_bytes, stored_map, parts_of, HasTreeWidths};
@@ -16,7 +16,7 @@ use zc_table::{PlainTable, put_table};
 use zc_tree::{Dataset, Tree, put_dataset};
 use zc_wire::put_u32;
 
-// Puts the bytes of a catalogue behind those of `out`.
+// Puts the bytes of a catalogue after those of `out`.
 #[tactic(auto, unfolding(zc_tree::specs::Catalogue::catalogue_bytes))]
 pub fn put_catalogue(
     tree: &Tree,

@@ -12,8 +12,6 @@ mod command;
 mod name;
 mod refusal;
 mod reply;
-#[cfg(test)]
-mod tests;
 mod text;
 
 pub use command::Command;

@@ -87,17 +87,17 @@ more_before places wanted blocks m ascending within lower k below inside =
     ⊎_elim (λ (before : k < m). omega (arith, lower_before places blocks k m ascending before within)) (λ (behind : m < k). absurd (omega arith)) apart)
     (cases_order k m)
 
--- one more block lies behind the place
-pub more_behind : (places wanted : ℕ) (blocks : List FoundBlock) (m : ℕ) → IsStrictlyIncreasing (numbers_of places blocks) → m < length blocks → wanted < get_or (numbers_of places blocks) m 0
+-- one more block lies after the place
+pub more_after : (places wanted : ℕ) (blocks : List FoundBlock) (m : ℕ) → IsStrictlyIncreasing (numbers_of places blocks) → m < length blocks → wanted < get_or (numbers_of places blocks) m 0
     → (k : ℕ) → m ≤ k → k < length blocks → wanted < get_or (numbers_of places blocks) k 0
-more_behind places wanted blocks m ascending within higher k from inside =
+more_after places wanted blocks m ascending within higher k from inside =
     ⊎_elim
     (λ (same : k ≡ m). subst (λ (j : ℕ). wanted < get_or (numbers_of places blocks) j 0) (sym same) higher)
     (λ (apart : (k < m) ⊎ (m < k)).
     ⊎_elim (λ (before : k < m). absurd (omega arith)) (λ (behind : m < k). omega (arith, lower_before places blocks m k ascending behind inside)) apart)
     (cases_order k m)
 
--- where all lie before or behind it, there are no bytes
+-- where all lie before or after it, there are no bytes
 pub nowhere : (places device place : ℕ) (blocks : List FoundBlock) (low high : ℕ) → high ≤ low
     → ((k : ℕ) → k < low → k < length blocks → get_or (numbers_of places blocks) k 0 < number_of places device place)
     → ((k : ℕ) → high ≤ k → k < length blocks → number_of places device place < get_or (numbers_of places blocks) k 0) → [] ≡ bytes_in blocks device place

@@ -13,7 +13,7 @@ use Rattle.zc_num.proofs.Each.{length_each, item_of_each}
 use Rattle.zc_blkptr.specs.declared.ptr.Ptr.{Ptr}
 use Rattle.zc_damage.specs.declared.place_use.PlaceUse.{PlaceUse}
 use Rattle.zc_damage.specs.Words.{or_else, when, first_of}
-use Rattle.zc_damage.specs.Places.{number_of, is_to, is_at, pointers_to, is_reached, has_place, IsPlace, ReachPlaces, ChainPlaces}
+use Rattle.zc_damage.specs.Places.{number_of, is_to, is_at, pointers_to, is_reached, chain_has, IsPlace, ReachPlaces, ChainPlaces}
 use Rattle.zc_damage.specs.Checks.{differ}
 use Rattle.zc_damage.specs.Census.{first_in, use_by, use_of, uses_of, with_pointer}
 use Rattle.zc_damage.proofs.FirstLaws.{first_of_append, or_else_none}
@@ -76,14 +76,14 @@ uses_more devices places front chain ptr there =
     set_each (total_of devices places) (use_of places front chain) (use_of places (front ++ ptr ∷ []) chain) number
     (with_pointer (use_of places front chain number) ptr)
     (number_below devices places ptr.device ptr.place there.0 there.1)
-    (ap (λ (ptrs : List Ptr). use_by ptrs (has_place places chain number)) (pointers_here places front ptr number refl)
-    ∙ sym (use_more (pointers_to places front number) ptr (has_place places chain number)))
-    (λ k other. ap (λ (ptrs : List Ptr). use_by ptrs (has_place places chain k)) (pointers_elsewhere places front ptr k other))
+    (ap (λ (ptrs : List Ptr). use_by ptrs (chain_has places chain number)) (pointers_here places front ptr number refl)
+    ∙ sym (use_more (pointers_to places front number) ptr (chain_has places chain number)))
+    (λ k other. ap (λ (ptrs : List Ptr). use_by ptrs (chain_has places chain k)) (pointers_elsewhere places front ptr k other))
 
 -- ---- one more place of the catalogue
 
 -- its place is marked
-pub mark_here : (places : ℕ) (front : List PlaceAt) (at : PlaceAt) (number : ℕ) → number ≡ number_of places at.device at.place → has_place places (front ++ at ∷ []) number ≡ true
+pub mark_here : (places : ℕ) (front : List PlaceAt) (at : PlaceAt) (number : ℕ) → number ≡ number_of places at.device at.place → chain_has places (front ++ at ∷ []) number ≡ true
 mark_here places front at number is =
     list_any-append (is_at places number) front (at ∷ [])
     ∙ ap (λ (b : Bool). list_any (is_at places number) front || (b || false)) (eq-eqb (number_of places at.device at.place) number (sym is))
@@ -94,7 +94,7 @@ mark_here places front at number is =
     or_true false = refl
 
 -- any other place stays
-pub mark_elsewhere : (places : ℕ) (front : List PlaceAt) (at : PlaceAt) (number : ℕ) → number ≢ number_of places at.device at.place → has_place places (front ++ at ∷ []) number ≡ has_place places front number
+pub mark_elsewhere : (places : ℕ) (front : List PlaceAt) (at : PlaceAt) (number : ℕ) → number ≢ number_of places at.device at.place → chain_has places (front ++ at ∷ []) number ≡ chain_has places front number
 mark_elsewhere places front at number other =
     list_any-append (is_at places number) front (at ∷ [])
     ∙ ap (λ (b : Bool). list_any (is_at places number) front || (b || false)) (ne_eqb (number_of places at.device at.place) number (λ same. other (sym same)))

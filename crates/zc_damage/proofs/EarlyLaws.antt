@@ -15,7 +15,7 @@ use Rattle.zc_tree.specs.declared.tree.LogState.TheVariants.{Normal, Claimed}
 use Rattle.zc_tree.specs.declared.catalogue.Parts.{Parts}
 use Rattle.zc_tree.specs.Reach.{pointers_of_tree}
 use Rattle.zc_damage.specs.Words.{or_else, when}
-use Rattle.zc_damage.specs.Places.{number_of, is_to, pointers_to, has_place, IsPlace, ReachPlaces}
+use Rattle.zc_damage.specs.Places.{number_of, is_to, pointers_to, chain_has, IsPlace, ReachPlaces}
 use Rattle.zc_damage.specs.Checks.{highest_number, worn_hit, worn_hit_at, birth_hit, birth_hit_at, log_hit, log_hit_of, log_hit_in, differ, other_block, beside, owners_of, owners_at, owner_hit_in, owner_hit_at, owner_hit, early_hit}
 use Rattle.zc_damage.specs.Passed.{AreLow, AreOfOneBlock, HaveOneOwner, PassesEarly}
 use Rattle.zc_damage.proofs.FirstLaws.{neither, none_of_both, none_of, of_none, none_from, from_none}
@@ -190,7 +190,7 @@ owner_none devices places chain reach all none =
     let there : (ptr : Ptr) → Contains reach ptr → IsPlace devices places ptr.device ptr.place =
     λ ptr has. All-contains (λ (p : Ptr). IsPlace devices places p.device p.place) reach ptr all has in
     let owner = λ (ptr : Ptr) (has : Contains reach ptr).
-    has_owner (has_place places chain (number ptr)) (pointers_to places reach (number ptr))
+    has_owner (chain_has places chain (number ptr)) (pointers_to places reach (number ptr))
     (no_owners places (number ptr) (owners_at places chain reach (number ptr))
     (none_from (owner_hit_at places chain reach) 0 (total_of devices places) none (number ptr) (omega arith)
     (omega (arith, number_below devices places ptr.device ptr.place (there ptr has).0 (there ptr has).1)))) in
@@ -207,7 +207,7 @@ none_owner devices places chain reach one =
     from_none (owner_hit_at places chain reach) 0 (total_of devices places)
     (λ number from below.
     ap (owner_hit_in places number)
-    (owner_has (has_place places chain number) (pointers_to places reach number)
+    (owner_has (chain_has places chain number) (pointers_to places reach number)
     (record {
       agree = λ first other has_first has_other.
           let in_first = passing_contains (is_to places number) reach first has_first in
@@ -216,7 +216,7 @@ none_owner devices places chain reach one =
           (eqb-true (number_of places first.device first.place) number in_first.1 ∙ sym (eqb-true (number_of places other.device other.place) number in_other.1));
       free = λ ptr has.
           let in_reach = passing_contains (is_to places number) reach ptr has in
-          ap (has_place places chain) (sym (eqb-true (number_of places ptr.device ptr.place) number in_reach.1)) ∙ one.not_in_catalogue ptr in_reach.0;
+          ap (chain_has places chain) (sym (eqb-true (number_of places ptr.device ptr.place) number in_reach.1)) ∙ one.not_in_catalogue ptr in_reach.0;
     })))
 
 -- ---- all of them

@@ -16,7 +16,7 @@ neither (Some y) other none = absurd cc
 pub none_of_both : {Y : Type 0} (one other : Option Y) → one ≡ None → other ≡ None → or_else one other ≡ None
 none_of_both one other first second = rw (first, second) refl
 
--- behind None comes the other
+-- after None comes the other
 pub other_if_none : {Y : Type 0} (one other : Option Y) → one ≡ None → or_else one other ≡ other
 other_if_none one other none = rw none refl
 
@@ -63,7 +63,7 @@ pub record IsFirstNumber {Y : Type 0} (f : ℕ → Option Y) (k n i : ℕ) (y : 
 -- what is found comes of the first that is hit
 pub first_number : {Y : Type 0} (f : ℕ → Option Y) (k n : ℕ) (y : Y) → first_from f k n ≡ Some y → (i : ℕ) × IsFirstNumber f k n i y
 first_number f k zero y found = absurd cc
-first_number {Y} f k (suc n) y found = at_first (f k) refl found (λ found_behind. first_number f (k + 1) n y found_behind)
+first_number {Y} f k (suc n) y found = at_first (f k) refl found (λ found_after. first_number f (k + 1) n y found_after)
   where
     earlier : (i : ℕ) → f k ≡ None → IsFirstNumber f (k + 1) n i y → (j : ℕ) → k ≤ j → j < i → f j ≡ None
     earlier i none first j from_k before =
@@ -143,7 +143,7 @@ pub of_none : {X Y : Type 0} (f : X → Option Y) (xs : List X) → AllByRecursi
 of_none f [] none = refl
 of_none f (x ∷ xs) none = none_of_both (f x) (first_of f xs) none.0 (of_none f xs none.1)
 
--- x is the first item that is hit, behind those of the front, and y is what comes of it
+-- x is the first item that is hit, after those of the front, and y is what comes of it
 pub record IsFirstItem {X Y : Type 0} (f : X → Option Y) (xs : List X) (front : List X) (x : X) (back : List X) (y : Y) : Type 0 where
   pub split : xs ≡ front ++ x ∷ back
   pub hit : f x ≡ Some y
@@ -152,7 +152,7 @@ pub record IsFirstItem {X Y : Type 0} (f : X → Option Y) (xs : List X) (front 
 -- what is found comes of the first that is hit
 pub first_item : {X Y : Type 0} (f : X → Option Y) (xs : List X) (y : Y) → first_of f xs ≡ Some y → (front : List X) × ((x : X) × ((back : List X) × IsFirstItem f xs front x back y))
 first_item f [] y found = absurd cc
-first_item {X} {Y} f (x ∷ xs) y found = at_first (f x) refl found (λ found_behind. first_item f xs y found_behind)
+first_item {X} {Y} f (x ∷ xs) y found = at_first (f x) refl found (λ found_after. first_item f xs y found_after)
   where
     behind : f x ≡ None → ((front : List X) × ((z : X) × ((back : List X) × IsFirstItem f xs front z back y))) → (front : List X) × ((z : X) × ((back : List X) × IsFirstItem f (x ∷ xs) front z back y))
     behind none rest = (
@@ -174,7 +174,7 @@ first_item {X} {Y} f (x ∷ xs) y found = at_first (f x) refl found (λ found_be
     at_first None is found others = behind is (others found)
     at_first (Some z) is found others = ([], (x, (xs, record { split = refl; hit = is ∙ found; before = tt })))
 
--- of two lists, one behind the other, the first is looked through first
+-- of two lists, one after the other, the first is looked through first
 pub first_of_append : {X Y : Type 0} (f : X → Option Y) (xs ys : List X) → first_of f (xs ++ ys) ≡ or_else (first_of f xs) (first_of f ys)
 first_of_append f [] ys = refl
 first_of_append {X} {Y} f (x ∷ xs) ys = ap (or_else (f x)) (first_of_append f xs ys) ∙ sym (or_else_assoc (f x) (first_of f xs) (first_of f ys))

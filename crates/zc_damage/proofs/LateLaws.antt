@@ -14,27 +14,27 @@ use Rattle.zc_tree.specs.Reach.{pointers_of_tree}
 use Rattle.zc_damage.specs.declared.damage.Hit.{Hit}
 use Rattle.zc_damage.specs.Words.{or_else, when}
 use Rattle.zc_damage.specs.Places.{extra_at, stored_count, stored_counter, is_allocated, is_owned}
-use Rattle.zc_damage.specs.Checks.{last_block, last_pointer, if_not_zero, byte_behind, tail_hit_with, tail_hit_in, tail_hit_of, tail_hit_among, tail_hit, count_hit, count_hit_at, region_extra, region_hit, region_hit_at, one_if, map_hit, map_hit_at, reached_places, charge_hit, late_hit}
+use Rattle.zc_damage.specs.Checks.{last_block, last_pointer, if_not_zero, byte_after, tail_hit_with, tail_hit_in, tail_hit_of, tail_hit_among, tail_hit, count_hit, count_hit_at, region_extra, region_hit, region_hit_at, one_if, map_hit, map_hit_at, reached_places, charge_hit, late_hit}
 use Rattle.zc_damage.specs.Passed.{HasZeroTail, PassesLate}
 use Rattle.zc_damage.proofs.FirstLaws.{neither, none_of_both, none_of, of_none, none_from, from_none}
 use Rattle.zc_damage.proofs.EarlyLaws.{when_none, none_when, each_weaker}
 
 -- ---- tail
 
--- no byte behind so many but zeros
-pub zeros_behind : (count : ℕ) (bytes : List ℕ) → byte_behind count bytes ≡ None → AllByRecursion (λ byte. byte ≡ 0) (drop count bytes)
-zeros_behind count bytes none =
+-- no byte after so many but zeros
+pub zeros_after : (count : ℕ) (bytes : List ℕ) → byte_after count bytes ≡ None → AllByRecursion (λ byte. byte ≡ 0) (drop count bytes)
+zeros_after count bytes none =
     each_weaker _ _ (λ byte passed. eqb-true byte 0 (not-false (eqb byte 0) (when_none (not (eqb byte 0)) byte passed))) (drop count bytes) (none_of if_not_zero (drop count bytes) none)
 
-pub behind_zeros : (count : ℕ) (bytes : List ℕ) → AllByRecursion (λ byte. byte ≡ 0) (drop count bytes) → byte_behind count bytes ≡ None
-behind_zeros count bytes zeros =
+pub after_zeros : (count : ℕ) (bytes : List ℕ) → AllByRecursion (λ byte. byte ≡ 0) (drop count bytes) → byte_after count bytes ≡ None
+after_zeros count bytes zeros =
     of_none if_not_zero (drop count bytes) (each_weaker _ _ (λ byte is. none_when (not (eqb byte 0)) byte (ap (λ (b : Bool). not b) (eq-eqb byte 0 is))) (drop count bytes) zeros)
 
 -- of one file
 pub file_tail : (bytes_at : ℕ → ℕ → List ℕ) (file : File) → tail_hit_of bytes_at file ≡ None → HasZeroTail bytes_at file
 file_tail bytes_at file none ptr is =
-    zeros_behind (file.size - 4096 * last_block file.size) (bytes_at ptr.device ptr.place)
-    (no_byte ptr (byte_behind (file.size - 4096 * last_block file.size) (bytes_at ptr.device ptr.place)) (sym (ap (tail_hit_in bytes_at file.size) is) ∙ none))
+    zeros_after (file.size - 4096 * last_block file.size) (bytes_at ptr.device ptr.place)
+    (no_byte ptr (byte_after (file.size - 4096 * last_block file.size) (bytes_at ptr.device ptr.place)) (sym (ap (tail_hit_in bytes_at file.size) is) ∙ none))
   where
     no_byte : (ptr : Ptr) (byte : Option ℕ) → tail_hit_with ptr byte ≡ None → byte ≡ None
     no_byte ptr None none = refl
@@ -45,7 +45,7 @@ tail_file bytes_at file zeros = at_last (last_pointer file) zeros
   where
     at_last : (last : Option Ptr) → ((ptr : Ptr) → last ≡ Some ptr → AllByRecursion (λ byte. byte ≡ 0) (drop (file.size - 4096 * last_block file.size) (bytes_at ptr.device ptr.place))) → tail_hit_in bytes_at file.size last ≡ None
     at_last None zeros = refl
-    at_last (Some ptr) zeros = ap (tail_hit_with ptr) (behind_zeros (file.size - 4096 * last_block file.size) (bytes_at ptr.device ptr.place) (zeros ptr refl))
+    at_last (Some ptr) zeros = ap (tail_hit_with ptr) (after_zeros (file.size - 4096 * last_block file.size) (bytes_at ptr.device ptr.place) (zeros ptr refl))
 
 pub tail_none : (bytes_at : ℕ → ℕ → List ℕ) (datasets : List Dataset) → tail_hit bytes_at datasets ≡ None → AllByRecursion (λ dataset. AllByRecursion (HasZeroTail bytes_at) dataset.files) datasets
 tail_none bytes_at datasets none =

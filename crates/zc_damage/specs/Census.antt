@@ -6,7 +6,7 @@ use Rattle.zc_num.specs.declared.numbers.PlaceAt.{PlaceAt}
 use Rattle.zc_blkptr.specs.declared.ptr.Ptr.{Ptr}
 use Rattle.zc_damage.specs.declared.place_use.PlaceUse.{PlaceUse}
 use Rattle.zc_damage.specs.Words.{or_else, when}
-use Rattle.zc_damage.specs.Places.{pointers_to, has_place}
+use Rattle.zc_damage.specs.Places.{pointers_to, chain_has}
 use Rattle.zc_damage.specs.Checks.{differ, other_block}
 
 -- what a census was made of, which is all that contracts see of it
@@ -38,7 +38,7 @@ use_by ptrs in_catalogue = record { first = first_in ptrs; pointers = length ptr
 
 -- the use of the place with this number
 abbrev pub use_of : (places : ℕ) → List Ptr → List PlaceAt → ℕ → PlaceUse
-use_of places reach chain number = use_by (pointers_to places reach number) (has_place places chain number)
+use_of places reach chain number = use_by (pointers_to places reach number) (chain_has places chain number)
 
 -- the uses of all places
 abbrev pub uses_of : (devices places : ℕ) → List Ptr → List PlaceAt → List PlaceUse

@@ -23,7 +23,7 @@ use Rattle.zc_damage.specs.declared.damage.Damage.{Damage}
 use Rattle.zc_damage.specs.declared.damage.DamageKind.{DamageKind}
 use Rattle.zc_damage.specs.declared.damage.DamageKind.TheVariants.{Worn, Birth, Log, Owner, Tail, Count, Region, Map, Charge}
 use Rattle.zc_damage.specs.Words.{or_else, when, first_of, first_from}
-use Rattle.zc_damage.specs.Places.{pointers_to, is_reached, extra_at, has_place, is_owned, stored_count, stored_counter, is_allocated}
+use Rattle.zc_damage.specs.Places.{pointers_to, is_reached, extra_at, chain_has, is_owned, stored_count, stored_counter, is_allocated}
 
 -- the damage that a hit with numbers is: each of the two in eight bytes
 abbrev pub damage_of : Hit → Damage
@@ -100,7 +100,7 @@ owners_of in_catalogue (first ∷ ptrs) = if in_catalogue then Some (0, first.ph
 
 -- the owners of the place with this number
 abbrev pub owners_at : (places : ℕ) → List PlaceAt → List Ptr → ℕ → Option (ℕ × ℕ)
-owners_at places chain reach number = owners_of (has_place places chain number) (pointers_to places reach number)
+owners_at places chain reach number = owners_of (chain_has places chain number) (pointers_to places reach number)
 
 -- two owners are a hit at their place
 abbrev pub owner_hit_in : (places number : ℕ) → Option (ℕ × ℕ) → Option Hit
@@ -123,9 +123,9 @@ last_block size = (size - 1) / 4096
 abbrev pub if_not_zero : ℕ → Option ℕ
 if_not_zero byte = when (not (byte == 0)) byte
 
--- the first byte that isn't 0 behind so many bytes
-abbrev pub byte_behind : ℕ → List ℕ → Option ℕ
-byte_behind count bytes = first_of if_not_zero (drop count bytes)
+-- the first byte that isn't 0 after so many bytes
+abbrev pub byte_after : ℕ → List ℕ → Option ℕ
+byte_after count bytes = first_of if_not_zero (drop count bytes)
 
 -- the pointer of the block that has the last byte of a file, where it has one that is no hole
 abbrev pub last_pointer : File → Option Ptr
@@ -139,7 +139,7 @@ tail_hit_with ptr (Some byte) = Some (record { kind = Tail; device = ptr.device;
 -- of the bytes at each place: the first byte of the pointer's block past the size that isn't 0
 abbrev pub tail_hit_in : (ℕ → ℕ → List ℕ) → (size : ℕ) → Option Ptr → Option Hit
 tail_hit_in bytes_at size None = None
-tail_hit_in bytes_at size (Some ptr) = tail_hit_with ptr (byte_behind (size - 4096 * last_block size) (bytes_at ptr.device ptr.place))
+tail_hit_in bytes_at size (Some ptr) = tail_hit_with ptr (byte_after (size - 4096 * last_block size) (bytes_at ptr.device ptr.place))
 
 -- the same of the last block of the file
 abbrev pub tail_hit_of : (ℕ → ℕ → List ℕ) → File → Option Hit

@@ -9,7 +9,7 @@ use Rattle.zc_tree.specs.declared.tree.File.{File}
 use Rattle.zc_tree.specs.declared.tree.LogState.TheVariants.{Normal}
 use Rattle.zc_tree.specs.declared.catalogue.Parts.{Parts}
 use Rattle.zc_tree.specs.Reach.{pointers_of_tree}
-use Rattle.zc_damage.specs.Places.{number_of, has_place, extra_at, stored_count, stored_counter, is_allocated, is_owned}
+use Rattle.zc_damage.specs.Places.{number_of, chain_has, extra_at, stored_count, stored_counter, is_allocated, is_owned}
 use Rattle.zc_damage.specs.Checks.{highest_number, last_block, last_pointer, region_extra, reached_places}
 
 -- no number of the tree that goes on rising is above the highest that an import takes
@@ -25,7 +25,7 @@ AreOfOneBlock first other = (first.physical ≡ other.physical) × (first.digest
 -- the pointers to each place are of one block, and the catalogue has none of their places
 pub record HaveOneOwner (places : ℕ) (chain : List PlaceAt) (reach : List Ptr) : Type 0 where
   pub one_block : (first other : Ptr) → Contains reach first → Contains reach other → number_of places first.device first.place ≡ number_of places other.device other.place → AreOfOneBlock first other
-  pub not_in_catalogue : (ptr : Ptr) → Contains reach ptr → has_place places chain (number_of places ptr.device ptr.place) ≡ false
+  pub not_in_catalogue : (ptr : Ptr) → Contains reach ptr → chain_has places chain (number_of places ptr.device ptr.place) ≡ false
 
 -- what holds where the early checks hit nothing
 pub record PassesEarly (devices places : ℕ) (parts : Parts) (chain : List PlaceAt) : Type 0 where
@@ -34,7 +34,7 @@ pub record PassesEarly (devices places : ℕ) (parts : Parts) (chain : List Plac
   pub logs : AllByRecursion (λ dataset. dataset.log ≡ Normal) parts.tree.datasets
   pub owners : HaveOneOwner places chain (pointers_of_tree parts.tree)
 
--- of the bytes at each place: the last block of the file has zeros behind the file's size
+-- of the bytes at each place: the last block of the file has zeros after the file's size
 abbrev pub HasZeroTail : (ℕ → ℕ → List ℕ) → File → Type 0
 HasZeroTail bytes_at file =
     (ptr : Ptr) → last_pointer file ≡ Some ptr → AllByRecursion (λ byte. byte ≡ 0) (drop (file.size - 4096 * last_block file.size) (bytes_at ptr.device ptr.place))

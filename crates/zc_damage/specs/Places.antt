@@ -35,13 +35,13 @@ abbrev pub is_at : (places number : ℕ) → PlaceAt → Bool
 is_at places number at = number_of places at.device at.place == number
 
 -- the catalogue has the place
-abbrev pub has_place : (places : ℕ) → List PlaceAt → ℕ → Bool
-has_place places chain number = list_any (is_at places number) chain
+abbrev pub chain_has : (places : ℕ) → List PlaceAt → ℕ → Bool
+chain_has places chain number = list_any (is_at places number) chain
 
 -- the place is owned: a block stands there, or a part of the catalogue, or it is a fixed place
 abbrev pub is_owned : (devices places : ℕ) → List PlaceAt → List Ptr → ℕ → Bool
 is_owned devices places chain reach number =
-    is_reached places reach number || (has_place places chain number || is_fixed devices places (number / places) (number % places))
+    is_reached places reach number || (chain_has places chain number || is_fixed devices places (number / places) (number % places))
 
 -- a pool of this size has the place
 abbrev pub IsPlace : (devices places device place : ℕ) → Type 0

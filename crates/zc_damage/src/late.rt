@@ -17,7 +17,7 @@ use zc_spacemap::StoredMap;
 use zc_table::StoredTable;
 use zc_tree::Parts;
 
-/// The first hit among the checks that come once all blocks are read and have their digests: of bytes behind the size of a file,
+/// The first hit among the checks that come once all blocks are read and have their digests: of bytes after the size of a file,
 /// of counts, of the counters of regions, of maps, of the number of places with blocks. The census is that of the tree's pointers
 /// and of the catalogue's places; the blocks ascend by the numbers of their places.
 ///

@@ -14,8 +14,6 @@ mod numbering;
 mod place_use;
 mod said;
 mod tails;
-#[cfg(test)]
-mod tests;
 
 pub use block::FoundBlock;
 pub use census::Census;

@@ -1,18 +1,18 @@
-// The bytes of files behind their sizes.
+// The bytes of files after their sizes.
 ghost use Rattle.std.specs.Prelude.{◌≡◌, ◌*◌, ◌-◌};
 ghost use Rattle.std.specs.List.Sorted.{IsStrictlyIncreasing};
 ghost use Rattle.std.specs.Option.{option_copied};
 ghost use Rattle.zc_num.specs.Ordered.{value_at};
 ghost use Rattle.zc_damage.specs.Places.{number_of, numbers_of, is_block_at, bytes_in, bytes_of};
 ghost use Rattle.zc_damage.specs.Words.{when};
-ghost use Rattle.zc_damage.specs.Checks.{tail_hit, tail_hit_among, tail_hit_of, tail_hit_with, last_block, last_pointer, byte_behind};
+ghost use Rattle.zc_damage.specs.Checks.{tail_hit, tail_hit_among, tail_hit_of, tail_hit_with, last_block, last_pointer, byte_after};
 
 use crate::{DamageKind, FoundBlock, Hit};
 use zc_blkptr::Ptr;
 use zc_num::{Limits, Ordered};
 use zc_tree::{Dataset, File};
 
-/// The first file with a byte behind its size, in its last block, that isn't 0. The blocks ascend by the numbers of their places,
+/// The first file with a byte after its size, in its last block, that isn't 0. The blocks ascend by the numbers of their places,
 /// so each is found by halves.
 pub fn tail_hit(limits: &Limits, datasets: &[Dataset], blocks: &[FoundBlock]) -> Option<Hit>
     requires { IsStrictlyIncreasing (numbers_of limits.now.places blocks.now) }
@@ -48,7 +48,7 @@ fn tail_hit_of(limits: &Limits, file: &File, blocks: &[FoundBlock]) -> Option<Hi
         None => None,
         Some(ptr) => {
             let count = last_bytes(file.size);
-            tail_hit_with(ptr, block_byte_behind(limits, blocks, ptr, count))
+            tail_hit_with(ptr, block_byte_after(limits, blocks, ptr, count))
         }
     }
 }
@@ -88,7 +88,7 @@ fn last_bytes(size: u64) -> usize
     (size - 4096 * blocks) as usize
 }
 
-// The hit that a byte behind the size is.
+// The hit that a byte after the size is.
 fn tail_hit_with(ptr: &Ptr, byte: Option<u8>) -> Option<Hit>
     ensures { result ≡ tail_hit_with ptr.now byte }
 {
@@ -104,20 +104,20 @@ fn tail_hit_with(ptr: &Ptr, byte: Option<u8>) -> Option<Hit>
     }
 }
 
-// The first byte that isn't 0 behind so many of the block that the pointer names.
-fn block_byte_behind(limits: &Limits, blocks: &[FoundBlock], ptr: &Ptr, count: usize) -> Option<u8>
+// The first byte that isn't 0 after so many of the block that the pointer names.
+fn block_byte_after(limits: &Limits, blocks: &[FoundBlock], ptr: &Ptr, count: usize) -> Option<u8>
     requires { IsStrictlyIncreasing (numbers_of limits.now.places blocks.now) }
-    ensures { result ≡ byte_behind count (bytes_in blocks.now ptr.now.device ptr.now.place) }
+    ensures { result ≡ byte_after count (bytes_in blocks.now ptr.now.device ptr.now.place) }
 {
     match block_at(limits, blocks, ptr.device, ptr.place) {
         None => None,
-        Some(block) => byte_behind(count, block.bytes.block()),
+        Some(block) => byte_after(count, block.bytes.block()),
     }
 }
 
-// The first byte that isn't 0 behind so many of these.
-fn byte_behind(count: usize, bytes: &[u8]) -> Option<u8>
-    ensures { result ≡ byte_behind count bytes.now }
+// The first byte that isn't 0 after so many of these.
+fn byte_after(count: usize, bytes: &[u8]) -> Option<u8>
+    ensures { result ≡ byte_after count bytes.now }
 {
     for index in count..bytes.len() {
         if bytes[index] != 0 {

@@ -18,16 +18,16 @@ use Rattle.zc_damage.specs.declared.block.FoundBlock.{FoundBlock}
 use Rattle.zc_damage.specs.declared.damage.Damage.{Damage}
 use Rattle.zc_damage.specs.declared.damage.DamageKind.TheVariants.{Block}
 use Rattle.zc_damage.specs.Words.{or_else, when}
-use Rattle.zc_damage.specs.Places.{pointers_to, is_reached, has_place, numbers_of}
+use Rattle.zc_damage.specs.Places.{pointers_to, is_reached, chain_has, numbers_of}
 use Rattle.zc_damage.specs.Census.{first_in}
 use Rattle.zc_damage.specs.Checks.{differ, other_block, owners_of, owners_at, owner_hit, owner_hit_at, owner_hit_in, beside}
 use Rattle.zc_damage.proofs.CensusLaws.{reached_as}
 use Rattle.zc_damage.proofs.FirstLaws.{none_from, neither, none_of_both, one_if_some}
-use Rattle.zc_state.specs.State.{place_at, place_of, block_places}
+use Rattle.zc_state.specs.State.{place_at, place_of_block, block_places}
 use Rattle.zc_state.specs.Reading.{block_damage, block_at, with_block, blocks_from, blocks_of}
 use Rattle.zc_image.specs.declared.fault.ImageFault.{ImageFault}
 use Rattle.zc_image.specs.declared.fault.ImageFault.TheVariants.{NoMemory, NoPool, DiskFault, Damaged}
-use Rattle.zc_image.specs.Answers.{IsWhole, Fails}
+use Rattle.zc_image.specs.ReadAnswers.{IsWhole, ReadFails}
 use Rattle.zc_image.specs.Gathering.{unless_damaged, and_block, and_block_by, gathered, before, IsRisingTo, AreBlocksBelow}
 
 -- ---- numbers that rise
@@ -53,7 +53,7 @@ rises_by_one n m xs e is = subst (λ (k : ℕ). IsRisingTo (n + 1) (xs ++ k ∷ 
 
 -- ---- the places of the blocks
 
--- one number more behind so many
+-- one number more after so many
 range_more : (first n : ℕ) → range_with_len first (n + 1) ≡ range_with_len first n ++ (first + n) ∷ []
 range_more first n = ap (range_with_len first) (add-one n) ∙ more first n where
   more : (first n : ℕ) → range_with_len first (suc n) ≡ range_with_len first n ++ (first + n) ∷ []
@@ -79,7 +79,7 @@ reached_by places reach number first is = sym (reached_as places reach number) �
 
 -- below 0 there is no place
 pub no_blocks_below : (places : ℕ) (reach : List Ptr) (blocks : List FoundBlock) → blocks ≡ [] → AreBlocksBelow places reach 0 blocks
-no_blocks_below places reach blocks none = record { there = ap (map place_of) none }
+no_blocks_below places reach blocks none = record { there = ap (map place_of_block) none }
 
 -- a place to which no pointer is adds none
 pub no_block_more : (places : ℕ) (reach : List Ptr) (number : ℕ) (blocks : List FoundBlock) → first_in (pointers_to places reach number) ≡ None
@@ -93,16 +93,16 @@ no_block_more places reach number blocks none are = record {
 pub one_block_more : (places : ℕ) (reach : List Ptr) (number : ℕ) (blocks : List FoundBlock) (block : FoundBlock) (ptr : Ptr) → first_in (pointers_to places reach number) ≡ Some ptr
     → block.device ≡ number / places → block.place ≡ number % places → AreBlocksBelow places reach number blocks → AreBlocksBelow places reach (number + 1) (blocks ++ block ∷ [])
 one_block_more places reach number blocks block ptr some device place are =
-    let here : place_of block ≡ place_at places number = λ i. record { device = device i; place = place i } in
+    let here : place_of_block block ≡ place_at places number = λ i. record { device = device i; place = place i } in
     record {
-      there = map-append place_of blocks (block ∷ []) ∙ ap (λ (front : List PlaceAt). front ++ place_of block ∷ []) are.there
+      there = map-append place_of_block blocks (block ∷ []) ∙ ap (λ (front : List PlaceAt). front ++ place_of_block block ∷ []) are.there
           ∙ ap (λ (at : PlaceAt). reached_below places reach number ++ at ∷ []) here
           ∙ sym (below_more places reach number ∙ ap (λ (b : Bool). reached_below places reach number ++ map (place_at places) (cond b (number ∷ []) [])) (reached_by places reach number (Some ptr) some));
     }
 
 -- those below the number of all places are those of the pool
 pub all_blocks_below : (devices places : ℕ) (reach : List Ptr) (number : ℕ) (blocks : List FoundBlock) → number ≡ total_of devices places
-    → AreBlocksBelow places reach number blocks → map place_of blocks ≡ block_places devices places reach
+    → AreBlocksBelow places reach number blocks → map place_of_block blocks ≡ block_places devices places reach
 all_blocks_below devices places reach number blocks all are = are.there ∙ ap (reached_below places reach) all
 
 -- ---- the first pointer decides
@@ -115,7 +115,7 @@ no_other_block false first ptrs e = at (other_block first ptrs) e where
   at None e = refl
   at (Some birth) e = absurd cc
 
--- an item behind a test that isn't there
+-- an item after a test that isn't there
 pub test_fails : {Y : Type 0} (test : Bool) (y : Y) → when test y ≡ None → test ≡ false
 test_fails true y e = absurd cc
 test_fails false y e = refl
@@ -148,17 +148,17 @@ first_decides bytes first ptrs none = at (damage_by bytes first) refl where
 
 -- ---- one more place
 
--- what was gathered, and the blocks behind it
+-- what was gathered, and the blocks after it
 abbrev going_on : Result (List FoundBlock) Damage → Result (List FoundBlock) Damage → Result (List FoundBlock) Damage
 going_on (Ok blocks) rest = before blocks rest
 going_on (Err damage) rest = Err damage
 
--- a block in front of the others, behind some
+-- a block in front of the others, after some
 block_between : (blocks : List FoundBlock) (block : FoundBlock) (rest : Result (List FoundBlock) Damage) → before blocks (with_block block rest) ≡ before (blocks ++ block ∷ []) rest
 block_between blocks block (Ok others) = ap Ok (sym (append_assoc blocks (block ∷ []) others))
 block_between blocks block (Err damage) = refl
 
--- what the pointers to one place make of the blocks behind it
+-- what the pointers to one place make of the blocks after it
 abbrev by_pointers : List Ptr → List ℕ → FoundBlock → Result (List FoundBlock) Damage → Result (List FoundBlock) Damage
 by_pointers ptrs bytes block rest = elim ptrs [
   | [] ↦ rest
@@ -185,7 +185,7 @@ gathered_more : (places : ℕ) (image : Image) (chain : List PlaceAt) (reach : L
     → before blocks (blocks_from places image reach (suc left) number) ≡ going_on (gathered places image reach number blocks) (blocks_from places image reach left (number + 1))
 unfolding blocks_from
 gathered_more places image chain reach left number blocks none =
-    by_first places image number (has_place places chain number) blocks (pointers_to places reach number) (blocks_from places image reach left (number + 1)) none
+    by_first places image number (chain_has places chain number) blocks (pointers_to places reach number) (blocks_from places image reach left (number + 1)) none
 
 -- ---- all places
 
@@ -233,7 +233,7 @@ gathered_next devices places image chain reach number blocks blocks' none lt is 
 
 -- the fault of one place is that of all
 pub gathered_fails : (devices places : ℕ) (image : Image) (chain : List PlaceAt) (reach : List Ptr) (number : ℕ) (blocks : List FoundBlock) (fault : ImageFault) → owner_hit devices places chain reach ≡ None
-    → number < total_of devices places → AreGathered devices places image reach number blocks → Fails fault (gathered places image reach number blocks) → Fails fault (blocks_of devices places image reach)
+    → number < total_of devices places → AreGathered devices places image reach number blocks → ReadFails fault (gathered places image reach number blocks) → ReadFails fault (blocks_of devices places image reach)
 gathered_fails devices places image chain reach number blocks NoMemory none lt is fails = tt
 gathered_fails devices places image chain reach number blocks NoPool none lt is fails = fails
 gathered_fails devices places image chain reach number blocks DiskFault none lt is fails = tt
@@ -241,7 +241,7 @@ gathered_fails devices places image chain reach number blocks (Damaged damage) n
     one_place devices places image chain reach number blocks none lt is
     ∙ ap (λ (r : Result (List FoundBlock) Damage). going_on r (blocks_from places image reach (total_of devices places - (number + 1)) (number + 1))) fails
 
--- behind the last place all are gathered
+-- after the last place all are gathered
 pub gathered_all : (devices places : ℕ) (image : Image) (reach : List Ptr) (number : ℕ) (blocks : List FoundBlock) → total_of devices places ≤ number
     → AreGathered devices places image reach number blocks → blocks_of devices places image reach ≡ Ok blocks
 unfolding blocks_from
@@ -259,6 +259,6 @@ gathered_next_here t u devices places chain reach number blocks blocks' same_tap
 
 pub gathered_fails_here : (t u : Tape) (devices places : ℕ) (chain : List PlaceAt) (reach : List Ptr) (number : ℕ) (blocks : List FoundBlock) (fault : ImageFault) → u ≡ t
     → owner_hit devices places chain reach ≡ None → number < total_of devices places → (IsWhole t → AreGathered devices places (reads t) reach number blocks)
-    → (IsWhole u → Fails fault (gathered places (reads u) reach number blocks)) → IsWhole t → Fails fault (blocks_of devices places (reads t) reach)
+    → (IsWhole u → ReadFails fault (gathered places (reads u) reach number blocks)) → IsWhole t → ReadFails fault (blocks_of devices places (reads t) reach)
 gathered_fails_here t u devices places chain reach number blocks fault same_tape none lt is fails whole =
-    gathered_fails devices places (reads t) chain reach number blocks fault none lt (is whole) (subst (λ (v : Tape). IsWhole v → Fails fault (gathered places (reads v) reach number blocks)) same_tape fails whole)
+    gathered_fails devices places (reads t) chain reach number blocks fault none lt (is whole) (subst (λ (v : Tape). IsWhole v → ReadFails fault (gathered places (reads v) reach number blocks)) same_tape fails whole)

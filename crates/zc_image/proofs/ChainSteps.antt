@@ -15,13 +15,13 @@ use Rattle.zc_damage.specs.Places.{IsPlace, ChainPlaces}
 use Rattle.zc_state.specs.Reading.{chain_damage, first_place, may_follow, is_last, joined, follow, chain_of}
 use Rattle.zc_image.specs.declared.fault.ImageFault.{ImageFault}
 use Rattle.zc_image.specs.declared.fault.ImageFault.TheVariants.{NoMemory, NoPool, DiskFault, Damaged}
-use Rattle.zc_image.specs.Answers.{IsWhole, Fails, Tells}
+use Rattle.zc_image.specs.ReadAnswers.{IsWhole, ReadFails, Tells}
 use Rattle.zc_image.specs.Blocks.{IsBlock, AreBlocksAt}
-use Rattle.zc_image.specs.Following.{next_behind, last_bytes, or_broken, ahead, placed}
+use Rattle.zc_image.specs.Following.{next_after, last_bytes, or_broken, ahead, placed}
 
 -- ---- one place
 
--- what is followed behind a next place that is there or not
+-- what is followed after a next place that is there or not
 abbrev behind : Option PlaceAt → PlaceAt × ℕ → (PlaceAt → Result (List PlaceAt × List ℕ) (PlaceAt × ℕ)) → PlaceAt → List ℕ → Result (List PlaceAt × List ℕ) (PlaceAt × ℕ)
 behind next bad f at bytes = elim next [ None ↦ Err bad | Some place ↦ elim (f place) [ Ok rest ↦ Ok (joined at bytes rest) | Err worse ↦ Err worse ] ]
 
@@ -30,34 +30,34 @@ joined_is : (r : Result (List PlaceAt × List ℕ) (PlaceAt × ℕ)) (at : Place
 joined_is (Ok rest) at bytes = refl
 joined_is (Err bad) at bytes = refl
 
-behind_some : (go : Bool) (next : Option PlaceAt) (bad : PlaceAt × ℕ) (f : PlaceAt → Result (List PlaceAt × List ℕ) (PlaceAt × ℕ)) (at place : PlaceAt) (bytes : List ℕ)
+after_some : (go : Bool) (next : Option PlaceAt) (bad : PlaceAt × ℕ) (f : PlaceAt → Result (List PlaceAt × List ℕ) (PlaceAt × ℕ)) (at place : PlaceAt) (bytes : List ℕ)
     → cond go next None ≡ Some place → cond go (behind next bad f at bytes) (Err bad) ≡ ahead (at ∷ []) bytes (f place)
-behind_some true None bad f at place bytes e = absurd cc
-behind_some true (Some other) bad f at place bytes e =
+after_some true None bad f at place bytes e = absurd cc
+after_some true (Some other) bad f at place bytes e =
     let same : other ≡ place = cc in joined_is (f other) at bytes ∙ ap (λ (p : PlaceAt). ahead (at ∷ []) bytes (f p)) same
-behind_some false next bad f at place bytes e = absurd cc
+after_some false next bad f at place bytes e = absurd cc
 
-behind_none : (go : Bool) (next : Option PlaceAt) (bad : PlaceAt × ℕ) (f : PlaceAt → Result (List PlaceAt × List ℕ) (PlaceAt × ℕ)) (at : PlaceAt) (bytes : List ℕ)
+after_none : (go : Bool) (next : Option PlaceAt) (bad : PlaceAt × ℕ) (f : PlaceAt → Result (List PlaceAt × List ℕ) (PlaceAt × ℕ)) (at : PlaceAt) (bytes : List ℕ)
     → cond go next None ≡ None → cond go (behind next bad f at bytes) (Err bad) ≡ Err bad
-behind_none true None bad f at bytes e = refl
-behind_none true (Some other) bad f at bytes e = absurd cc
-behind_none false next bad f at bytes e = refl
+after_none true None bad f at bytes e = refl
+after_none true (Some other) bad f at bytes e = absurd cc
+after_none false next bad f at bytes e = refl
 
 -- a place that names a next one is in front of what follows from there
 pub follow_next : (devices places : ℕ) (image : Image) (left index : ℕ) (seen : List PlaceAt) (count : ℕ) (at next : PlaceAt)
-    → next_behind devices places image seen at ≡ Some next
+    → next_after devices places image seen at ≡ Some next
     → follow devices places image (suc left) index seen count at ≡ ahead (at ∷ []) (drop 8 (image at.device at.place)) (follow devices places image left (index + 1) (at ∷ seen) (count - 4088) next)
 unfolding follow
 follow_next devices places image left index seen count at next e =
-    behind_some (may_follow devices places seen at) (next_in (image at.device at.place)) (at, index) (follow devices places image left (index + 1) (at ∷ seen) (count - 4088)) at next
+    after_some (may_follow devices places seen at) (next_in (image at.device at.place)) (at, index) (follow devices places image left (index + 1) (at ∷ seen) (count - 4088)) at next
     (drop 8 (image at.device at.place)) e
 
 -- one that names none is where the chain is none
 pub follow_stops : (devices places : ℕ) (image : Image) (left index : ℕ) (seen : List PlaceAt) (count : ℕ) (at : PlaceAt)
-    → next_behind devices places image seen at ≡ None → follow devices places image (suc left) index seen count at ≡ Err (at, index)
+    → next_after devices places image seen at ≡ None → follow devices places image (suc left) index seen count at ≡ Err (at, index)
 unfolding follow
 follow_stops devices places image left index seen count at e =
-    behind_none (may_follow devices places seen at) (next_in (image at.device at.place)) (at, index) (follow devices places image left (index + 1) (at ∷ seen) (count - 4088)) at
+    after_none (may_follow devices places seen at) (next_in (image at.device at.place)) (at, index) (follow devices places image left (index + 1) (at ∷ seen) (count - 4088)) at
     (drop 8 (image at.device at.place)) e
 
 -- the last place of a chain, or not
@@ -77,13 +77,13 @@ follow_ends devices places image index seen count at =
 
 -- ---- places in front
 
-ahead_of_ahead : (places more : List PlaceAt) (bytes behind_them : List ℕ) (r : Result (List PlaceAt × List ℕ) (PlaceAt × ℕ))
-    → ahead places bytes (ahead more behind_them r) ≡ ahead (places ++ more) (bytes ++ behind_them) r
-ahead_of_ahead places more bytes behind_them (Ok rest) =
+ahead_of_ahead : (places more : List PlaceAt) (bytes after_them : List ℕ) (r : Result (List PlaceAt × List ℕ) (PlaceAt × ℕ))
+    → ahead places bytes (ahead more after_them r) ≡ ahead (places ++ more) (bytes ++ after_them) r
+ahead_of_ahead places more bytes after_them (Ok rest) =
     let front : places ++ (more ++ rest.0) ≡ (places ++ more) ++ rest.0 = sym (append_assoc places more rest.0) in
-    let back : bytes ++ (behind_them ++ rest.1) ≡ (bytes ++ behind_them) ++ rest.1 = sym (append_assoc bytes behind_them rest.1) in
+    let back : bytes ++ (after_them ++ rest.1) ≡ (bytes ++ after_them) ++ rest.1 = sym (append_assoc bytes after_them rest.1) in
     λ i. Ok (front i, back i)
-ahead_of_ahead places more bytes behind_them (Err bad) = refl
+ahead_of_ahead places more bytes after_them (Err bad) = refl
 
 -- ---- the way so far
 
@@ -117,7 +117,7 @@ all_and_one P (y ∷ xs) x all one = (all.0, all_and_one P xs x all.1 one)
 
 -- one more place
 pub followed_more : (devices places : ℕ) (image : Image) (body : Body) (index : ℕ) (seen : List PlaceAt) (bytes : List ℕ) (at next : PlaceAt) (seen' : List PlaceAt) (bytes' : List ℕ)
-    → IsFollowed devices places image body index seen bytes at → index < body.chain - 1 → next_behind devices places image (reverse seen) at ≡ Some next
+    → IsFollowed devices places image body index seen bytes at → index < body.chain - 1 → next_after devices places image (reverse seen) at ≡ Some next
     → seen' ≡ seen ++ at ∷ [] → bytes' ≡ bytes ++ drop 8 (image at.device at.place) → IsBlock (image at.device at.place)
     → IsFollowed devices places image body (index + 1) seen' bytes' next
 followed_more devices places image body index seen bytes at next seen' bytes' so_far within goes_on seen_is bytes_are block =
@@ -155,7 +155,7 @@ chain_followed devices places image body long =
 
 -- a body that has fewer places than its length takes, or more
 pub chain_too_short : (devices places : ℕ) (image : Image) (body : Body) (fault : ImageFault) → body.chain ≢ chain_length body.length
-    → Tells fault (chain_damage body (first_place body) 0) → Fails fault (chain_of devices places image body)
+    → Tells fault (chain_damage body (first_place body) 0) → ReadFails fault (chain_of devices places image body)
 unfolding chain_of
 chain_too_short devices places image body NoMemory other tells = tt
 chain_too_short devices places image body NoPool other tells = tells
@@ -171,7 +171,7 @@ chain_too_short devices places image body (Damaged damage) other tells =
 -- a place that names no next one is the damage
 pub chain_stops : (devices places : ℕ) (image : Image) (body : Body) (index : ℕ) (seen : List PlaceAt) (bytes : List ℕ) (at : PlaceAt)
     → body.chain ≡ chain_length body.length → IsFollowed devices places image body index seen bytes at → index < body.chain - 1
-    → next_behind devices places image (reverse seen) at ≡ None → chain_of devices places image body ≡ Err (chain_damage body at index)
+    → next_after devices places image (reverse seen) at ≡ None → chain_of devices places image body ≡ Err (chain_damage body at index)
 chain_stops devices places image body index seen bytes at long so_far within stops =
     let one_less : body.chain - 1 - index ≡ suc (body.chain - 1 - (index + 1)) = omega arith in
     chain_followed devices places image body long ∙ ap (placed body) (so_far.rest
@@ -198,17 +198,17 @@ or_broken_some body at index (Some y) x e = let same : y ≡ x = cc in ap Some s
 
 -- a fault of one place is a fault of the chain, where its damage is the chain's
 broken_fails : {X Y : Type 0} (body : Body) (at : PlaceAt) (index : ℕ) (o : Option X) (fault : ImageFault) (read : Result Y Damage)
-    → (o ≡ None → read ≡ Err (chain_damage body at index)) → Fails fault (or_broken body at index o) → Fails fault read
+    → (o ≡ None → read ≡ Err (chain_damage body at index)) → ReadFails fault (or_broken body at index o) → ReadFails fault read
 broken_fails body at index o NoMemory read is fails = tt
 broken_fails body at index o NoPool read is fails = fails
 broken_fails body at index o DiskFault read is fails = tt
 broken_fails body at index None (Damaged damage) read is fails = is refl ∙ (let same : chain_damage body at index ≡ damage = cc in ap Err same)
 broken_fails body at index (Some x) (Damaged damage) read is fails = absurd cc
 
--- the way goes on where a place behind this one was answered
+-- the way goes on where a place after this one was answered
 pub goes_on : (devices places : ℕ) (image : Image) (body : Body) (index : ℕ) (seen : List PlaceAt) (bytes : List ℕ) (at next : PlaceAt) (seen' : List PlaceAt) (bytes' : List ℕ)
     → IsFollowed devices places image body index seen bytes at → index < body.chain - 1
-    → or_broken body at index (next_behind devices places image (reverse seen) at) ≡ Ok next
+    → or_broken body at index (next_after devices places image (reverse seen) at) ≡ Ok next
     → seen' ≡ seen ++ at ∷ [] → bytes' ≡ bytes ++ drop 8 (image at.device at.place) → IsBlock (image at.device at.place)
     → IsFollowed devices places image body (index + 1) seen' bytes' next
 goes_on devices places image body index seen bytes at next seen' bytes' so_far within answer seen_is bytes_are block =
@@ -217,15 +217,15 @@ goes_on devices places image body index seen bytes at next seen' bytes' so_far w
 -- the fault of an inner place is the chain's
 pub inner_fails : (devices places : ℕ) (image : Image) (body : Body) (index : ℕ) (seen : List PlaceAt) (bytes : List ℕ) (at : PlaceAt) (fault : ImageFault)
     → body.chain ≡ chain_length body.length → IsFollowed devices places image body index seen bytes at → index < body.chain - 1
-    → Fails fault (or_broken body at index (next_behind devices places image (reverse seen) at)) → Fails fault (chain_of devices places image body)
+    → ReadFails fault (or_broken body at index (next_after devices places image (reverse seen) at)) → ReadFails fault (chain_of devices places image body)
 inner_fails devices places image body index seen bytes at fault long so_far within fails =
-    broken_fails body at index (next_behind devices places image (reverse seen) at) fault (chain_of devices places image body)
+    broken_fails body at index (next_after devices places image (reverse seen) at) fault (chain_of devices places image body)
     (chain_stops devices places image body index seen bytes at long so_far within) fails
 
 -- the fault of the last place is the chain's
 pub last_fails : (devices places : ℕ) (image : Image) (body : Body) (seen : List PlaceAt) (bytes : List ℕ) (at : PlaceAt) (fault : ImageFault)
     → body.chain ≡ chain_length body.length → IsFollowed devices places image body (body.chain - 1) seen bytes at
-    → Fails fault (or_broken body at (body.chain - 1) (last_bytes devices places image (reverse seen) (body.length - 4088 * (body.chain - 1)) at)) → Fails fault (chain_of devices places image body)
+    → ReadFails fault (or_broken body at (body.chain - 1) (last_bytes devices places image (reverse seen) (body.length - 4088 * (body.chain - 1)) at)) → ReadFails fault (chain_of devices places image body)
 last_fails devices places image body seen bytes at fault long so_far fails =
     broken_fails body at (body.chain - 1) (last_bytes devices places image (reverse seen) (body.length - 4088 * (body.chain - 1)) at) fault (chain_of devices places image body)
     (chain_ends devices places image body seen bytes at None long so_far) fails
@@ -251,21 +251,21 @@ blocks_found devices places image body index seen bytes at seen' so_far seen_is 
 -- the fault of an inner place
 pub inner_fails_here : (t u : Tape) (a b : Limits) (body : Body) (index : ℕ) (seen : List PlaceAt) (bytes : List ℕ) (at : PlaceAt) (fault : ImageFault) → u ≡ t → b ≡ a
     → body.chain ≡ chain_length body.length → (IsWhole t → IsFollowed a.devices a.places (reads t) body index seen bytes at) → index < body.chain - 1
-    → (IsWhole u → Fails fault (or_broken body at index (next_behind b.devices b.places (reads u) (reverse seen) at))) → IsWhole t → Fails fault (chain_of a.devices a.places (reads t) body)
+    → (IsWhole u → ReadFails fault (or_broken body at index (next_after b.devices b.places (reads u) (reverse seen) at))) → IsWhole t → ReadFails fault (chain_of a.devices a.places (reads t) body)
 inner_fails_here t u a b body index seen bytes at fault same_tape same_limits long so_far within fails whole =
-    let of_limits = subst (λ (l : Limits). IsWhole u → Fails fault (or_broken body at index (next_behind l.devices l.places (reads u) (reverse seen) at))) same_limits fails in
-    let of_tape = subst (λ (v : Tape). IsWhole v → Fails fault (or_broken body at index (next_behind a.devices a.places (reads v) (reverse seen) at))) same_tape of_limits in
+    let of_limits = subst (λ (l : Limits). IsWhole u → ReadFails fault (or_broken body at index (next_after l.devices l.places (reads u) (reverse seen) at))) same_limits fails in
+    let of_tape = subst (λ (v : Tape). IsWhole v → ReadFails fault (or_broken body at index (next_after a.devices a.places (reads v) (reverse seen) at))) same_tape of_limits in
     inner_fails a.devices a.places (reads t) body index seen bytes at fault long (so_far whole) within (of_tape whole)
 
 -- one more place
 pub goes_on_here : (t u : Tape) (a b : Limits) (body : Body) (index : ℕ) (seen : List PlaceAt) (bytes : List ℕ) (at next : PlaceAt) (seen' : List PlaceAt) (bytes' : List ℕ) → u ≡ t → b ≡ a
     → (IsWhole t → IsFollowed a.devices a.places (reads t) body index seen bytes at) → index < body.chain - 1
-    → (IsWhole u → or_broken body at index (next_behind b.devices b.places (reads u) (reverse seen) at) ≡ Ok next)
+    → (IsWhole u → or_broken body at index (next_after b.devices b.places (reads u) (reverse seen) at) ≡ Ok next)
     → seen' ≡ seen ++ at ∷ [] → (IsWhole u → bytes' ≡ bytes ++ drop 8 (reads u at.device at.place)) → (IsWhole u → IsBlock (reads u at.device at.place))
     → IsWhole t → IsFollowed a.devices a.places (reads t) body (index + 1) seen' bytes' next
 goes_on_here t u a b body index seen bytes at next seen' bytes' same_tape same_limits so_far within answer seen_is bytes_are block whole =
-    let of_limits = subst (λ (l : Limits). IsWhole u → or_broken body at index (next_behind l.devices l.places (reads u) (reverse seen) at) ≡ Ok next) same_limits answer in
-    let of_tape = subst (λ (v : Tape). IsWhole v → or_broken body at index (next_behind a.devices a.places (reads v) (reverse seen) at) ≡ Ok next) same_tape of_limits in
+    let of_limits = subst (λ (l : Limits). IsWhole u → or_broken body at index (next_after l.devices l.places (reads u) (reverse seen) at) ≡ Ok next) same_limits answer in
+    let of_tape = subst (λ (v : Tape). IsWhole v → or_broken body at index (next_after a.devices a.places (reads v) (reverse seen) at) ≡ Ok next) same_tape of_limits in
     let bytes_here = subst (λ (v : Tape). IsWhole v → bytes' ≡ bytes ++ drop 8 (reads v at.device at.place)) same_tape bytes_are in
     let block_here = subst (λ (v : Tape). IsWhole v → IsBlock (reads v at.device at.place)) same_tape block in
     goes_on a.devices a.places (reads t) body index seen bytes at next seen' bytes' (so_far whole) within (of_tape whole) seen_is (bytes_here whole) (block_here whole)
@@ -290,11 +290,11 @@ at_last devices places image body index seen bytes at e = subst (λ (k : ℕ). I
 -- the fault of the last place
 pub last_fails_here : (t u : Tape) (a b : Limits) (body : Body) (index count : ℕ) (seen : List PlaceAt) (bytes : List ℕ) (at : PlaceAt) (fault : ImageFault) → u ≡ t → b ≡ a
     → body.chain ≡ chain_length body.length → (IsWhole t → IsFollowed a.devices a.places (reads t) body index seen bytes at) → index ≡ body.chain - 1 → count ≡ body.length - 4088 * (body.chain - 1)
-    → (IsWhole u → Fails fault (or_broken body at (body.chain - 1) (last_bytes b.devices b.places (reads u) (reverse seen) count at))) → IsWhole t → Fails fault (chain_of a.devices a.places (reads t) body)
+    → (IsWhole u → ReadFails fault (or_broken body at (body.chain - 1) (last_bytes b.devices b.places (reads u) (reverse seen) count at))) → IsWhole t → ReadFails fault (chain_of a.devices a.places (reads t) body)
 last_fails_here t u a b body index count seen bytes at fault same_tape same_limits long so_far at_end counted fails whole =
-    let of_limits = subst (λ (l : Limits). IsWhole u → Fails fault (or_broken body at (body.chain - 1) (last_bytes l.devices l.places (reads u) (reverse seen) count at))) same_limits fails in
-    let of_tape = subst (λ (v : Tape). IsWhole v → Fails fault (or_broken body at (body.chain - 1) (last_bytes a.devices a.places (reads v) (reverse seen) count at))) same_tape of_limits in
-    let of_count = subst (λ (k : ℕ). IsWhole t → Fails fault (or_broken body at (body.chain - 1) (last_bytes a.devices a.places (reads t) (reverse seen) k at))) counted of_tape in
+    let of_limits = subst (λ (l : Limits). IsWhole u → ReadFails fault (or_broken body at (body.chain - 1) (last_bytes l.devices l.places (reads u) (reverse seen) count at))) same_limits fails in
+    let of_tape = subst (λ (v : Tape). IsWhole v → ReadFails fault (or_broken body at (body.chain - 1) (last_bytes a.devices a.places (reads v) (reverse seen) count at))) same_tape of_limits in
+    let of_count = subst (λ (k : ℕ). IsWhole t → ReadFails fault (or_broken body at (body.chain - 1) (last_bytes a.devices a.places (reads t) (reverse seen) k at))) counted of_tape in
     last_fails a.devices a.places (reads t) body seen bytes at fault long (at_last a.devices a.places (reads t) body index seen bytes at at_end (so_far whole)) (of_count whole)
 
 -- the whole chain

@@ -13,7 +13,7 @@ use Rattle.zc_tree.specs.declared.catalogue.Parts.{Parts}
 use Rattle.zc_layout.specs.Layout.{owns}
 use Rattle.zc_damage.specs.declared.block.FoundBlock.{FoundBlock}
 use Rattle.zc_damage.specs.Words.{when}
-use Rattle.zc_damage.specs.Places.{number_of, is_to, pointers_to, has_place, bytes_in, IsPlace}
+use Rattle.zc_damage.specs.Places.{number_of, is_to, pointers_to, chain_has, bytes_in, IsPlace}
 use Rattle.zc_damage.specs.Census.{first_in}
 use Rattle.zc_damage.specs.Checks.{differ, owners_of, worn_hit, birth_hit, log_hit, tail_hit}
 use Rattle.zc_damage.proofs.FirstLaws.{neither, none_of}
@@ -35,7 +35,7 @@ checked_no_logs devices places parts chain blocks checked =
     (neither (birth_hit parts.tree.group (pointers_of_tree parts.tree)) _
     (neither (worn_hit parts.tree) _ checked.early).1).1).0
 
--- no file has a byte behind its size that isn't 0
+-- no file has a byte after its size that isn't 0
 pub checked_tails : (devices places : ℕ) (parts : Parts) (chain : List PlaceAt) (blocks : List FoundBlock) → IsChecked devices places parts chain blocks
     → tail_hit (bytes_in blocks) parts.tree.datasets ≡ None
 checked_tails devices places parts chain blocks checked = (neither (tail_hit (bytes_in blocks) parts.tree.datasets) _ checked.late).0
@@ -89,11 +89,11 @@ checked_one_block devices places group next_dataset parts chain blocks are check
     let first : Option Ptr = first_in (pointers_to places reach number) in
     let there : IsPlace devices places a.device a.place =
     All-contains (λ (ptr : Ptr). IsPlace devices places ptr.device ptr.place) reach a (parts_have_places devices places group next_dataset parts are) among_a in
-    let agree : owners_of (has_place places chain number) (pointers_to places reach number) ≡ None =
+    let agree : owners_of (chain_has places chain number) (pointers_to places reach number) ≡ None =
     owners_apart devices places chain reach number (no_owner_hit devices places parts chain checked.early) (number_below devices places a.device a.place there.0 there.1) in
     let all : All (λ (ptr : Ptr). is_to places number ptr ≡ true → IsOfFirst first ptr) reach =
     All-from_recursion (λ (ptr : Ptr). is_to places number ptr ≡ true → IsOfFirst first ptr) reach
-    (all_passed (IsOfFirst first) (is_to places number) reach (all_of_first (has_place places chain number) (pointers_to places reach number) agree)) in
+    (all_passed (IsOfFirst first) (is_to places number) reach (all_of_first (chain_has places chain number) (pointers_to places reach number) agree)) in
     let same_number : number_of places b.device b.place ≡ number = λ i. number_of places (sym device i) (sym place i) in
     one_of_first first a b
     (All-contains (λ (ptr : Ptr). is_to places number ptr ≡ true → IsOfFirst first ptr) reach a all among_a (eq-eqb number number refl))

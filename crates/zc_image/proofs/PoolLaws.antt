@@ -1,4 +1,4 @@
--- What is answered of a pool, from what is read behind its root.
+-- What is answered of a pool, from what is read after its root.
 use Rattle.std.proofs.Common.{◌≡◌, ◌∙◌, Result, Ok, Err, IfOk, sym, ap, subst}
 use Rattle.zc_num.specs.Limits.{AreLimits}
 use Rattle.zc_tape.specs.Tape.{Shape, Tape}
@@ -12,7 +12,7 @@ use Rattle.zc_state.proofs.ReadLaws.{read_stands, read_only}
 use Rattle.zc_image.specs.declared.fault.ImageFault.{ImageFault}
 use Rattle.zc_image.specs.declared.fault.ImageFault.TheVariants.{NoMemory, NoPool, DiskFault, Damaged}
 use Rattle.zc_image.specs.declared.found.Found.{Found}
-use Rattle.zc_image.specs.Answers.{IsWhole, Answers}
+use Rattle.zc_image.specs.ReadAnswers.{IsWhole, ReadAnswers}
 use Rattle.zc_image.specs.Blocks.{AreBlocksAt}
 use Rattle.zc_image.specs.Steps.{state_in}
 use Rattle.zc_image.specs.Found.{state_of, IsAnswer, Finds}
@@ -26,20 +26,20 @@ whole_roots t whole = record { whole = λ place low. whole.unspoilt 0 place }
 abbrev pub IsChosen : Tape → Body → Type 0
 IsChosen t body = IsWhole t → IsRoot (reads t) body
 
--- what is known of an answer behind a root
-pub record IsReadBehind (t : Tape) (shape : Shape) (body : Body) (result : Result Found ImageFault) : Type 0 where
-  pub exact : IsWhole t → Answers state_of result (state_in shape (reads t) body)
+-- what is known of an answer after a root
+pub record IsReadAfter (t : Tape) (shape : Shape) (body : Body) (result : Result Found ImageFault) : Type 0 where
+  pub exact : IsWhole t → ReadAnswers state_of result (state_in shape (reads t) body)
   pub body_is : IfOk result (λ found. found.body ≡ body)
   pub blocks : IfOk result (λ found. IsWhole t → AreBlocksAt (reads t) found.catalogue)
 
 -- it is known of another tape and shape that are the same
-pub behind_here : (t u : Tape) (shape shape' : Shape) (body : Body) (result : Result Found ImageFault) → u ≡ t → shape' ≡ shape
-    → IsReadBehind u shape' body result → IsReadBehind t shape body result
-behind_here t u shape shape' body result same_tape same_shape is =
-    subst (λ (v : Tape). IsReadBehind v shape body result) same_tape (subst (λ (h : Shape). IsReadBehind u h body result) same_shape is)
+pub after_here : (t u : Tape) (shape shape' : Shape) (body : Body) (result : Result Found ImageFault) → u ≡ t → shape' ≡ shape
+    → IsReadAfter u shape' body result → IsReadAfter t shape body result
+after_here t u shape shape' body result same_tape same_shape is =
+    subst (λ (v : Tape). IsReadAfter v shape body result) same_tape (subst (λ (h : Shape). IsReadAfter u h body result) same_shape is)
 
--- what was answered is what is read behind the root
-pub exact_of : (t : Tape) (shape : Shape) (body : Body) (result : Result Found ImageFault) → IsChosen t body → IsReadBehind t shape body result
+-- what was answered is what is read after the root
+pub exact_of : (t : Tape) (shape : Shape) (body : Body) (result : Result Found ImageFault) → IsChosen t body → IsReadAfter t shape body result
     → IsWhole t → IsAnswer shape (reads t) result
 exact_of t shape body (Ok found) chosen behind whole = ap (read_state shape (reads t)) behind.body_is ∙ sym (state_by_steps shape (reads t) body) ∙ behind.exact whole
 exact_of t shape body (Err NoMemory) chosen behind whole = tt
@@ -50,14 +50,14 @@ exact_of t shape body (Err (Damaged damage)) chosen behind whole =
 
 -- what was found stands there
 pub sound_of : (t : Tape) (shape : Shape) (body : Body) (result : Result Found ImageFault) → AreLimits shape.devices shape.places → IsChosen t body
-    → IsReadBehind t shape body result → IfOk result (λ found. IsWhole t → StandsFor shape (reads t) (state_of found) × IsFresh (state_of found))
+    → IsReadAfter t shape body result → IfOk result (λ found. IsWhole t → StandsFor shape (reads t) (state_of found) × IsFresh (state_of found))
 sound_of t shape body (Ok found) limits chosen behind = λ whole.
     let stands = read_stands shape (reads t) body (state_of found) limits (chosen whole) (sym (state_by_steps shape (reads t) body) ∙ behind.exact whole) (behind.blocks whole) in
     (stands.0, stands.1)
 sound_of t shape body (Err fault) limits chosen behind = tt
 
 -- what stands there is found
-pub only_of : (t : Tape) (shape : Shape) (body : Body) (result : Result Found ImageFault) → IsChosen t body → IsReadBehind t shape body result
+pub only_of : (t : Tape) (shape : Shape) (body : Body) (result : Result Found ImageFault) → IsChosen t body → IsReadAfter t shape body result
     → IsWhole t → (s : State) → StandsFor shape (reads t) s → IsFresh s → Finds s result
 only_of t shape body result chosen behind whole s stands fresh =
     let same : s.body ≡ body = one_root (reads t) s.body body stands.stands.root (chosen whole) in
@@ -65,7 +65,7 @@ only_of t shape body result chosen behind whole s stands fresh =
     state_by_steps shape (reads t) body ∙ ap (read_state shape (reads t)) (sym same) ∙ read_only shape (reads t) s stands.state fresh stands.stands.holds in
     at result (behind.exact whole) read
   where
-    at : (r : Result Found ImageFault) → Answers state_of r (state_in shape (reads t) body) → state_in shape (reads t) body ≡ Ok s → Finds s r
+    at : (r : Result Found ImageFault) → ReadAnswers state_of r (state_in shape (reads t) body) → state_in shape (reads t) body ≡ Ok s → Finds s r
     at (Ok found) answer read = cc
     at (Err NoMemory) answer read = tt
     at (Err NoPool) answer read = answer

@@ -21,7 +21,7 @@ use Rattle.zc_image.specs.Steps.{catalogue_in, blocks_in, state_in}
 
 -- ---- steps
 
--- a step of steps is its steps one behind the other
+-- a step of steps is its steps one after the other
 bind_assoc : {A B C : Type 0} (r : Result A Damage) (f : A → Result B Damage) (g : B → Result C Damage) → ((r >>= f) >>= g) ≡ (r >>= λ x. f x >>= g)
 bind_assoc (Ok x) f g = refl
 bind_assoc (Err damage) f g = refl

@@ -7,9 +7,9 @@ use Rattle.zc_catalog.specs.Chain.{next_in}
 use Rattle.zc_damage.specs.declared.damage.Damage.{Damage}
 use Rattle.zc_state.specs.Reading.{chain_damage, may_follow, is_last}
 
--- the place behind this one of a chain that has been at these places, where the chain goes on
-abbrev pub next_behind : (devices places : ℕ) → Image → List PlaceAt → PlaceAt → Option PlaceAt
-next_behind devices places image seen at = if may_follow devices places seen at then next_in (image at.device at.place) else None
+-- the place after this one of a chain that has been at these places, where the chain goes on
+abbrev pub next_after : (devices places : ℕ) → Image → List PlaceAt → PlaceAt → Option PlaceAt
+next_after devices places image seen at = if may_follow devices places seen at then next_in (image at.device at.place) else None
 
 -- the last bytes of a chain, so many, where it ends at this place
 abbrev pub last_bytes : (devices places : ℕ) → Image → List PlaceAt → ℕ → PlaceAt → Option (List ℕ)

@@ -1,4 +1,4 @@
--- What was found behind a root, and what was answered.
+-- What was found after a root, and what was answered.
 use Rattle.std.specs.Prelude.{◌≡◌, Result, Ok, Err}
 use Rattle.zc_tape.specs.Tape.{Image, Shape}
 use Rattle.zc_root.specs.declared.body.Body.{Body}
@@ -13,14 +13,14 @@ use Rattle.zc_image.specs.declared.found.Found.{Found}
 abbrev pub state_of : Found → State
 state_of found = record { body = found.body; chain = found.catalogue; parts = found.parts; blocks = found.blocks }
 
--- a damage is the one that is read behind the root of the image; the other faults are told apart
+-- a damage is the one that is read after the root of the image; the other faults are told apart
 abbrev pub IsFault : Shape → Image → ImageFault → Type 0
 IsFault shape image NoMemory = Unit {0}
 IsFault shape image NoPool = Unit {0}
 IsFault shape image DiskFault = Unit {0}
 IsFault shape image (Damaged damage) = (body : Body) × (IsRoot image body × (read_state shape image body ≡ Err damage))
 
--- what was answered is what is read behind the root of the image
+-- what was answered is what is read after the root of the image
 abbrev pub IsAnswer : Shape → Image → Result Found ImageFault → Type 0
 IsAnswer shape image (Ok found) = read_state shape image found.body ≡ Ok (state_of found)
 IsAnswer shape image (Err fault) = IsFault shape image fault

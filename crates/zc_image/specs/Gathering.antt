@@ -8,7 +8,7 @@ use Rattle.zc_damage.specs.declared.block.FoundBlock.{FoundBlock}
 use Rattle.zc_damage.specs.declared.damage.Damage.{Damage}
 use Rattle.zc_damage.specs.Places.{pointers_to, is_reached}
 use Rattle.zc_damage.specs.Census.{first_in}
-use Rattle.zc_state.specs.State.{place_at, place_of}
+use Rattle.zc_state.specs.State.{place_at, place_of_block}
 use Rattle.zc_state.specs.Reading.{block_damage, block_at}
 
 -- the value, where there is no damage
@@ -20,12 +20,12 @@ unless_damaged (Some damage) x = Err damage
 abbrev pub block_by : (places : ℕ) → Image → ℕ → Ptr → Result FoundBlock Damage
 block_by places image number ptr = unless_damaged (block_damage (ptr ∷ []) (image (number / places) (number % places))) (block_at places image number)
 
--- the blocks with one more behind them
+-- the blocks with one more after them
 abbrev pub and_block : List FoundBlock → Result FoundBlock Damage → Result (List FoundBlock) Damage
 and_block blocks (Ok block) = Ok (blocks ++ block ∷ [])
 and_block blocks (Err damage) = Err damage
 
--- the blocks with that of the place with this number behind them, if a pointer is to it
+-- the blocks with that of the place with this number after them, if a pointer is to it
 abbrev pub and_block_by : (places : ℕ) → Image → ℕ → List FoundBlock → Option Ptr → Result (List FoundBlock) Damage
 and_block_by places image number blocks None = Ok blocks
 and_block_by places image number blocks (Some ptr) = and_block blocks (block_by places image number ptr)
@@ -34,7 +34,7 @@ and_block_by places image number blocks (Some ptr) = and_block blocks (block_by 
 abbrev pub gathered : (places : ℕ) → Image → List Ptr → ℕ → List FoundBlock → Result (List FoundBlock) Damage
 gathered places image reach number blocks = and_block_by places image number blocks (first_in (pointers_to places reach number))
 
--- the blocks with the others behind them
+-- the blocks with the others after them
 abbrev pub before : List FoundBlock → Result (List FoundBlock) Damage → Result (List FoundBlock) Damage
 before blocks (Ok others) = Ok (blocks ++ others)
 before blocks (Err damage) = Err damage
@@ -46,4 +46,4 @@ pub record IsRisingTo (number : ℕ) (numbers : List ℕ) : Type 0 where
 
 -- the blocks are those of the places below this number to which a pointer is, each once, ascending
 pub record AreBlocksBelow (places : ℕ) (reach : List Ptr) (number : ℕ) (blocks : List FoundBlock) : Type 0 where
-  pub there : map place_of blocks ≡ map (place_at places) (filter (is_reached places reach) (range_with_len 0 number))
+  pub there : map place_of_block blocks ≡ map (place_at places) (filter (is_reached places reach) (range_with_len 0 number))

@@ -1,4 +1,4 @@
-pub mod Answers
+pub mod ReadAnswers
 pub mod Blocks
 pub mod Checked
 pub mod Following

@@ -1,4 +1,4 @@
--- The reading behind a root in two steps: its catalogue, and the checks and blocks that follow from that.
+-- The reading after a root in two steps: its catalogue, and the checks and blocks that follow from that.
 use Rattle.std.specs.Prelude.{ℕ, List, Result, Ok}
 use Rattle.zc_num.specs.declared.numbers.PlaceAt.{PlaceAt}
 use Rattle.zc_tape.specs.Tape.{Image, Shape}
@@ -28,7 +28,7 @@ blocks_in devices places image chain parts = do
   _ ← clear_hit (late_hit devices places parts chain (bytes_in blocks))
   Ok blocks
 
--- both behind a body of the disks' size
+-- both after a body of the disks' size
 unfoldable pub state_in : Shape → Image → Body → Result State Damage
 state_in shape image body = do
   _ ← clear_hit (geometry_hit shape body)

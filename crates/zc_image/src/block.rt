@@ -2,7 +2,7 @@
 ghost use Rattle.std.specs.Prelude.{◌≡◌, ◌<◌, ◌≤◌, OnOk, OnErr, IsErrOf};
 ghost use Rattle.zc_tape.specs.Cause.{Rose};
 ghost use Rattle.zc_tape.specs.Crash.{reads};
-ghost use Rattle.zc_image.specs.Answers.{IsWhole};
+ghost use Rattle.zc_image.specs.ReadAnswers.{IsWhole};
 
 use crate::ImageFault;
 use zc_num::PlaceAt;

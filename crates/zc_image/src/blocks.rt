@@ -7,9 +7,9 @@ ghost use Rattle.zc_tape.specs.Cause.{Rose};
 ghost use Rattle.zc_tape.specs.Crash.{reads};
 ghost use Rattle.zc_damage.specs.Places.{numbers_of};
 ghost use Rattle.zc_damage.specs.Checks.{owner_hit};
-ghost use Rattle.zc_state.specs.State.{place_of, block_places};
+ghost use Rattle.zc_state.specs.State.{place_of_block, block_places};
 ghost use Rattle.zc_state.specs.Reading.{blocks_of};
-ghost use Rattle.zc_image.specs.Answers.{IsWhole, Answers, Tells};
+ghost use Rattle.zc_image.specs.ReadAnswers.{IsWhole, ReadAnswers, Tells};
 ghost use Rattle.zc_image.specs.Gathering.{block_by, gathered, IsRisingTo, AreBlocksBelow};
 
 use crate::ImageFault;
@@ -43,7 +43,7 @@ fn read_block<D: DiskSet>(
     requires there { number < total_of limits.now.devices limits.now.places }
     requires devices { limits.now.devices ≡ (D.shape disks.old).devices }
     requires places { limits.now.places ≡ (D.shape disks.old).places }
-    ensures exact { IsWhole (D.tape disks.old) → Answers (λ block. block) result (block_by limits.now.places (reads (D.tape disks.old)) number ptr.now) }
+    ensures exact { IsWhole (D.tape disks.old) → ReadAnswers (λ block. block) result (block_by limits.now.places (reads (D.tape disks.old)) number ptr.now) }
     ensures device { IfOk result (λ block. block.device ≡ number / limits.now.places) }
     ensures place { IfOk result (λ block. block.place ≡ number % limits.now.places) }
     ensures tape { D.tape disks.new ≡ D.tape disks.old }
@@ -96,7 +96,7 @@ fn add_block<D: DiskSet>(
     requires census_places { census.now.places ≡ limits.now.places }
     requires devices { limits.now.devices ≡ (D.shape disks.old).devices }
     requires places { limits.now.places ≡ (D.shape disks.old).places }
-    ensures exact { IsWhole (D.tape disks.old) → Answers (λ _. blocks.new) result (gathered limits.now.places (reads (D.tape disks.old)) census.now.reach number blocks.old) }
+    ensures exact { IsWhole (D.tape disks.old) → ReadAnswers (λ _. blocks.new) result (gathered limits.now.places (reads (D.tape disks.old)) census.now.reach number blocks.old) }
     ensures rising { OnOk result (IsRisingTo number (numbers_of limits.now.places blocks.old) → IsRisingTo (number + 1) (numbers_of limits.now.places blocks.new)) }
     ensures there { OnOk result (AreBlocksBelow limits.now.places census.now.reach number blocks.old → AreBlocksBelow limits.now.places census.now.reach (number + 1) blocks.new) }
     ensures tape { D.tape disks.new ≡ D.tape disks.old }
@@ -127,10 +127,10 @@ pub fn read_blocks<D: DiskSet>(
     requires owners { owner_hit limits.now.devices limits.now.places census.now.chain census.now.reach ≡ None }
     requires devices { limits.now.devices ≡ (D.shape disks.old).devices }
     requires places { limits.now.places ≡ (D.shape disks.old).places }
-    ensures exact { IsWhole (D.tape disks.old) → Answers (λ blocks. blocks) result
+    ensures exact { IsWhole (D.tape disks.old) → ReadAnswers (λ blocks. blocks) result
         (blocks_of limits.now.devices limits.now.places (reads (D.tape disks.old)) census.now.reach) }
     ensures ascending { IfOk result (λ blocks. IsStrictlyIncreasing (numbers_of limits.now.places blocks)) }
-    ensures there { IfOk result (λ blocks. map place_of blocks ≡ block_places limits.now.devices limits.now.places census.now.reach) }
+    ensures there { IfOk result (λ blocks. map place_of_block blocks ≡ block_places limits.now.devices limits.now.places census.now.reach) }
     ensures tape { D.tape disks.new ≡ D.tape disks.old }
     ensures shape { D.shape disks.new ≡ D.shape disks.old }
     ensures spare { D.spare disks.new ≡ D.spare disks.old }

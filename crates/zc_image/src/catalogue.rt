@@ -3,7 +3,7 @@ ghost use Rattle.std.specs.Prelude.{◌≡◌, IfOk, IsErrOf};
 ghost use Rattle.std.specs.Str.{bytes_eq};
 ghost use Rattle.zc_tree.specs.Catalogue.{AreParts};
 ghost use Rattle.zc_state.specs.Reading.{clear, digest_damage, parts_in};
-ghost use Rattle.zc_image.specs.Answers.{Answers};
+ghost use Rattle.zc_image.specs.ReadAnswers.{ReadAnswers};
 
 use crate::ImageFault;
 use crate::hits::{damaged, damaged_bytes};
@@ -18,7 +18,7 @@ use zc_wire::CatalogFault;
 
 // Goes on where the bytes have the digest that the body says.
 pub fn check_digest(alloc: Global, body: &Body, bytes: &[u8]) -> Result<(), ImageFault>
-    ensures answer { Answers (λ _. tt) result (clear (digest_damage body.now bytes.now)) }
+    ensures answer { ReadAnswers (λ _. tt) result (clear (digest_damage body.now bytes.now)) }
     ensures no_read { IsErrOf result ImageFault.DiskFault → ⊥ }
 {
     let digest = Sha256::digest(bytes);
@@ -50,7 +50,7 @@ pub fn read_parts(
     body: &Body,
     bytes: &[u8],
 ) -> Result<Parts, ImageFault>
-    ensures answer { Answers (λ parts. parts) result (parts_in limits.now.devices limits.now.places body.now bytes.now) }
+    ensures answer { ReadAnswers (λ parts. parts) result (parts_in limits.now.devices limits.now.places body.now bytes.now) }
     ensures parts { IfOk result (AreParts limits.now.devices limits.now.places body.now.group body.now.next_dataset) }
     ensures no_read { IsErrOf result ImageFault.DiskFault → ⊥ }
 {

@@ -6,9 +6,9 @@ ghost use Rattle.zc_tape.specs.Crash.{reads};
 ghost use Rattle.zc_catalog.specs.Chain.{chain_length};
 ghost use Rattle.zc_damage.specs.Places.{IsPlace, ChainPlaces};
 ghost use Rattle.zc_state.specs.Reading.{chain_damage, chain_of, first_place, is_last};
-ghost use Rattle.zc_image.specs.Answers.{IsWhole, Answers, Tells};
+ghost use Rattle.zc_image.specs.ReadAnswers.{IsWhole, ReadAnswers, Tells};
 ghost use Rattle.zc_image.specs.Blocks.{IsBlock, AreBlocksAt};
-ghost use Rattle.zc_image.specs.Following.{next_behind, last_bytes, or_broken};
+ghost use Rattle.zc_image.specs.Following.{next_after, last_bytes, or_broken};
 
 use crate::ImageFault;
 use crate::block::{read_place, zeros};
@@ -46,7 +46,7 @@ pub fn read_chain<D: DiskSet>(
     requires some { 1 ≤ body.now.chain }
     requires devices { limits.now.devices ≡ (D.shape disks.old).devices }
     requires places { limits.now.places ≡ (D.shape disks.old).places }
-    ensures exact { IsWhole (D.tape disks.old) → Answers (λ trail. (trail.places, trail.bytes.items)) result
+    ensures exact { IsWhole (D.tape disks.old) → ReadAnswers (λ trail. (trail.places, trail.bytes.items)) result
         (chain_of limits.now.devices limits.now.places (reads (D.tape disks.old)) body.now) }
     ensures whole { IfOk result (λ trail. IsWhole (D.tape disks.old) → AreBlocksAt (reads (D.tape disks.old)) trail.places) }
     ensures there { IfOk result (λ trail. ChainPlaces limits.now.devices limits.now.places trail.places) }
@@ -73,7 +73,7 @@ fn follow_chain<D: DiskSet>(
     requires long { body.now.chain ≡ chain_length body.now.length }
     requires devices { limits.now.devices ≡ (D.shape disks.old).devices }
     requires places { limits.now.places ≡ (D.shape disks.old).places }
-    ensures exact { IsWhole (D.tape disks.old) → Answers (λ trail. (trail.places, trail.bytes.items)) result
+    ensures exact { IsWhole (D.tape disks.old) → ReadAnswers (λ trail. (trail.places, trail.bytes.items)) result
         (chain_of limits.now.devices limits.now.places (reads (D.tape disks.old)) body.now) }
     ensures whole { IfOk result (λ trail. IsWhole (D.tape disks.old) → AreBlocksAt (reads (D.tape disks.old)) trail.places) }
     ensures there { IfOk result (λ trail. ChainPlaces limits.now.devices limits.now.places trail.places) }
@@ -112,7 +112,7 @@ fn last_count(body: &Body) -> usize
     (body.length - 4088 * u64::from(body.chain - 1)) as usize
 }
 
-// Goes on from a place that others follow: the place behind it.
+// Goes on from a place that others follow: the place after it.
 fn follow_inner<D: DiskSet>(
     alloc: Global,
     disks: &mut D,
@@ -123,8 +123,8 @@ fn follow_inner<D: DiskSet>(
 ) -> Result<PlaceAt, ImageFault>
     requires devices { trail.old.limits.devices ≡ (D.shape disks.old).devices }
     requires places { trail.old.limits.places ≡ (D.shape disks.old).places }
-    ensures next { IsWhole (D.tape disks.old) → Answers (λ next. next) result
-        (or_broken body.now at.now index (next_behind trail.old.limits.devices trail.old.limits.places (reads (D.tape disks.old)) (reverse trail.old.places) at.now)) }
+    ensures next { IsWhole (D.tape disks.old) → ReadAnswers (λ next. next) result
+        (or_broken body.now at.now index (next_after trail.old.limits.devices trail.old.limits.places (reads (D.tape disks.old)) (reverse trail.old.places) at.now)) }
     ensures limits { trail.new.limits ≡ trail.old.limits }
     ensures place { OnOk result (trail.new.places ≡ trail.old.places ++ at.now ∷ []) }
     ensures bytes { OnOk result (IsWhole (D.tape disks.old)
@@ -144,7 +144,7 @@ fn follow_inner<D: DiskSet>(
     read_place(disks, at, &mut block)?;
     match next_of(&block) {
         Some(next) => {
-            trail.push(at, behind_mark(&block))?;
+            trail.push(at, after_mark(&block))?;
             Ok(next)
         }
         None => Err(broken(alloc, body, at, index)),
@@ -164,7 +164,7 @@ fn follow_last<D: DiskSet>(
     requires few { count ≤ 4088 }
     requires devices { trail.old.limits.devices ≡ (D.shape disks.old).devices }
     requires places { trail.old.limits.places ≡ (D.shape disks.old).places }
-    ensures last { IsWhole (D.tape disks.old) → Answers (λ _. take count (drop 8 (reads (D.tape disks.old) at.now.device at.now.place))) result
+    ensures last { IsWhole (D.tape disks.old) → ReadAnswers (λ _. take count (drop 8 (reads (D.tape disks.old) at.now.device at.now.place))) result
         (or_broken body.now at.now (body.now.chain - 1) (last_bytes trail.old.limits.devices trail.old.limits.places (reads (D.tape disks.old)) (reverse trail.old.places) count at.now)) }
     ensures limits { trail.new.limits ≡ trail.old.limits }
     ensures place { OnOk result (trail.new.places ≡ trail.old.places ++ at.now ∷ []) }
@@ -209,7 +209,7 @@ fn is_zero(bytes: &[u8]) -> bool
 }
 
 // The bytes of the chain that a block holds.
-fn behind_mark(block: &[u8; 4096]) -> &[u8]
+fn after_mark(block: &[u8; 4096]) -> &[u8]
     ensures bytes { result.now ≡ drop 8 block.now }
     ensures whole { IsBlock block.now }
 {
@@ -222,5 +222,5 @@ fn front_of(block: &[u8; 4096], count: usize) -> &[u8]
     ensures bytes { result.now ≡ take count (drop 8 block.now) }
     ensures whole { IsBlock block.now }
 {
-    behind_mark(block).split_at(count).0
+    after_mark(block).split_at(count).0
 }

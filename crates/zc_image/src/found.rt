@@ -3,7 +3,7 @@ use zc_num::{Listed, PlaceAt};
 use zc_root::Body;
 use zc_tree::Parts;
 
-/// What was found behind the root of a pool.
+/// What was found after the root of a pool.
 #[derive(Debug, Drop)]
 pub struct Found {
     /// The body of the root.

@@ -2,7 +2,7 @@
 ghost use Rattle.std.specs.Prelude.{◌≡◌, None, IfOk, OnOk, IsErrOf};
 ghost use Rattle.zc_damage.specs.Checks.{damage_of};
 ghost use Rattle.zc_state.specs.Reading.{clear_hit};
-ghost use Rattle.zc_image.specs.Answers.{Answers, Tells};
+ghost use Rattle.zc_image.specs.ReadAnswers.{ReadAnswers, Tells};
 
 use crate::ImageFault;
 use std::alloc::Global;
@@ -56,7 +56,7 @@ fn both(alloc: Global, kept: &[u8], found: &[u8]) -> Result<(Bytes, Bytes), NoMe
 
 // Goes on where a check hit nothing.
 pub fn pass(alloc: Global, hit: Option<Hit>) -> Result<(), ImageFault>
-    ensures answer { Answers (λ _. tt) result (clear_hit hit) }
+    ensures answer { ReadAnswers (λ _. tt) result (clear_hit hit) }
     ensures none { OnOk result (hit ≡ None) }
     ensures no_read { IsErrOf result ImageFault.DiskFault → ⊥ }
 {

@@ -1,4 +1,4 @@
-// Reading a whole pool: what stands behind its root, or the first damage of it.
+// Reading a whole pool: what stands after its root, or the first damage of it.
 //
 // The root is chosen first. Then the checks come in one order, and the first that hits is the answer: the size, the chain of the
 // catalogue's places, the digest of the catalogue, its bytes, the checks of what it says, each block's digest, and the checks
@@ -19,8 +19,6 @@ mod geometry;
 mod hits;
 mod reach;
 mod reading;
-#[cfg(test)]
-mod tests;
 mod trail;
 
 pub use fault::ImageFault;

@@ -7,7 +7,7 @@ ghost use Rattle.zc_tree.specs.Reach.{pointers_of_tree};
 ghost use Rattle.zc_damage.specs.Places.{ChainPlaces};
 ghost use Rattle.zc_damage.specs.Checks.{HaveAreas, worn_hit};
 ghost use Rattle.zc_damage.specs.Census.{IsCensus};
-ghost use Rattle.zc_image.specs.Answers.{IsWhole, Answers};
+ghost use Rattle.zc_image.specs.ReadAnswers.{IsWhole, ReadAnswers};
 ghost use Rattle.zc_image.specs.Checked.{IsChecked};
 ghost use Rattle.zc_image.specs.Steps.{blocks_in};
 
@@ -34,7 +34,7 @@ fn check_and_read<D: DiskSet>(
     requires census { IsCensus limits.now.devices limits.now.places (pointers_of_tree parts.now.tree) chain.now census.now }
     requires devices { limits.now.devices ≡ (D.shape disks.old).devices }
     requires places { limits.now.places ≡ (D.shape disks.old).places }
-    ensures exact { IsWhole (D.tape disks.old) → Answers (λ blocks. blocks) result (blocks_in limits.now.devices limits.now.places (reads (D.tape disks.old)) chain.now parts.now) }
+    ensures exact { IsWhole (D.tape disks.old) → ReadAnswers (λ blocks. blocks) result (blocks_in limits.now.devices limits.now.places (reads (D.tape disks.old)) chain.now parts.now) }
     ensures fresh { OnOk result (worn_hit parts.now.tree ≡ None) }
     ensures checked { IfOk result (λ blocks. IsChecked limits.now.devices limits.now.places parts.now chain.now blocks) }
     ensures tape { D.tape disks.new ≡ D.tape disks.old }
@@ -65,7 +65,7 @@ pub fn read_reach<D: DiskSet>(
     requires chain { ChainPlaces limits.now.devices limits.now.places chain.now }
     requires devices { limits.now.devices ≡ (D.shape disks.old).devices }
     requires places { limits.now.places ≡ (D.shape disks.old).places }
-    ensures exact { IsWhole (D.tape disks.old) → Answers (λ blocks. blocks) result (blocks_in limits.now.devices limits.now.places (reads (D.tape disks.old)) chain.now parts.now) }
+    ensures exact { IsWhole (D.tape disks.old) → ReadAnswers (λ blocks. blocks) result (blocks_in limits.now.devices limits.now.places (reads (D.tape disks.old)) chain.now parts.now) }
     ensures fresh { OnOk result (worn_hit parts.now.tree ≡ None) }
     ensures checked { IfOk result (λ blocks. IsChecked limits.now.devices limits.now.places parts.now chain.now blocks) }
     ensures tape { D.tape disks.new ≡ D.tape disks.old }

@@ -1,5 +1,5 @@
-// All of it: what stands behind the root, or the first damage.
-ghost use Rattle.std.specs.Prelude.{◌≡◌, ◌≤◌, IfOk, IsErrOf, None};
+// All of it: what stands after the root, or the first damage.
+ghost use Rattle.std.specs.Prelude.{◌≡◌, ◌≤◌, IfOk, IfErr, IsErrOf, None};
 ghost use Rattle.zc_num.specs.Limits.{AreLimits};
 ghost use Rattle.zc_tape.specs.Cause.{Rose};
 ghost use Rattle.zc_tape.specs.Crash.{reads};
@@ -10,7 +10,7 @@ ghost use Rattle.zc_tree.specs.Catalogue.{AreParts};
 ghost use Rattle.zc_damage.specs.Places.{ChainPlaces};
 ghost use Rattle.zc_damage.specs.Checks.{worn_hit};
 ghost use Rattle.zc_state.specs.State.{State, StandsFor, IsFresh};
-ghost use Rattle.zc_image.specs.Answers.{IsWhole, Answers};
+ghost use Rattle.zc_image.specs.ReadAnswers.{IsWhole, ReadAnswers, IsDamage};
 ghost use Rattle.zc_image.specs.Blocks.{AreBlocksAt};
 ghost use Rattle.zc_image.specs.Checked.{IsChecked};
 ghost use Rattle.zc_image.specs.Found.{state_of, IsAnswer, Finds};
@@ -28,7 +28,7 @@ use zc_root::{Body, RootFault, read_slots};
 use zc_tape::DiskSet;
 use zc_tree::Parts;
 
-/// The pool that the disk set holds: what stands behind its root.
+/// The pool that the disk set holds: what stands after its root.
 ///
 /// It reads the roots, the places of the catalogue's chain, and each place to which a pointer is, and each of them once.
 ///
@@ -41,13 +41,16 @@ pub fn read_pool<D: DiskSet>(alloc: Global, disks: &mut D) -> Result<Found, Imag
     ensures root { IfOk result (λ found. IsWhole (D.tape disks.old)
         → IsRoot (reads (D.tape disks.old)) found.body × AreGates (reads (D.tape disks.old)) found.gates) }
 
-    // What is answered is what the image holds behind its root. So what is found stands there, and what stands there is found.
+    // What is answered is what the image holds after its root. So what is found stands there, and what stands there is found.
     ensures exact { IsWhole (D.tape disks.old) → IsAnswer (D.shape disks.old) (reads (D.tape disks.old)) result }
     ensures sound { IfOk result (λ found. IsWhole (D.tape disks.old)
         → StandsFor (D.shape disks.old) (reads (D.tape disks.old)) (state_of found) × IsFresh (state_of found)) }
     ensures only { IsWhole (D.tape disks.old) → (s : State) → StandsFor (D.shape disks.old) (reads (D.tape disks.old)) s → IsFresh s → Finds s result }
     ensures none { IsErrOf result ImageFault.NoPool → IsWhole (D.tape disks.old)
         → AreLimits (D.shape disks.old).devices (D.shape disks.old).places → HasNoRoot (reads (D.tape disks.old)) }
+
+    // A damage is told only of a disk set whose size a pool may have.
+    ensures sized { IfErr result (λ fault. IsDamage fault → AreLimits (D.shape disks.old).devices (D.shape disks.old).places) }
 
     // Whatever the reads gave, these fit a pool of the disks' size, the numbers are low, and the checks of what was found hit nothing.
     ensures places { IfOk result (λ found. ChainPlaces (D.shape disks.old).devices (D.shape disks.old).places found.catalogue) }
@@ -66,7 +69,7 @@ pub fn read_pool<D: DiskSet>(alloc: Global, disks: &mut D) -> Result<Found, Imag
             let body = root.0;
             let gates = root.1;
             let limits = size_of(disks);
-            read_behind(alloc, disks, &limits, body, gates)
+            read_after(alloc, disks, &limits, body, gates)
         }
         Err(RootFault::NoPool) => Err(ImageFault::NoPool),
         Err(RootFault::Failed) => Err(ImageFault::DiskFault),
@@ -85,9 +88,9 @@ fn size_of<D: DiskSet>(disks: &D) -> Limits
     }
 }
 
-// What stands behind the root with this body.
+// What stands after the root with this body.
 #[tactic(auto, unfolding(crate::specs::Steps::state_in))]
-fn read_behind<D: DiskSet>(
+fn read_after<D: DiskSet>(
     alloc: Global,
     disks: &mut D,
     limits: &Limits,
@@ -97,7 +100,7 @@ fn read_behind<D: DiskSet>(
     requires body { IsBody body }
     requires devices { limits.now.devices ≡ (D.shape disks.old).devices }
     requires places { limits.now.places ≡ (D.shape disks.old).places }
-    ensures exact { IsWhole (D.tape disks.old) → Answers state_of result (state_in (D.shape disks.old) (reads (D.tape disks.old)) body) }
+    ensures exact { IsWhole (D.tape disks.old) → ReadAnswers state_of result (state_in (D.shape disks.old) (reads (D.tape disks.old)) body) }
     ensures body { IfOk result (λ found. found.body ≡ body) }
     ensures gates { IfOk result (λ found. found.gates ≡ gates) }
     ensures whole { IfOk result (λ found. IsWhole (D.tape disks.old) → AreBlocksAt (reads (D.tape disks.old)) found.catalogue) }
@@ -142,7 +145,7 @@ fn read_catalogue<D: DiskSet>(
     requires body { IsBody body.now }
     requires devices { limits.now.devices ≡ (D.shape disks.old).devices }
     requires places { limits.now.places ≡ (D.shape disks.old).places }
-    ensures exact { IsWhole (D.tape disks.old) → Answers (λ found. (found.0, found.1)) result
+    ensures exact { IsWhole (D.tape disks.old) → ReadAnswers (λ found. (found.0, found.1)) result
         (catalogue_in limits.now.devices limits.now.places (reads (D.tape disks.old)) body.now) }
     ensures whole { IfOk result (λ found. IsWhole (D.tape disks.old) → AreBlocksAt (reads (D.tape disks.old)) found.0) }
     ensures there { IfOk result (λ found. ChainPlaces limits.now.devices limits.now.places found.0) }

@@ -1,7 +1,7 @@
 // The places of a chain so far, and the bytes that they hold.
 ghost use Rattle.std.specs.Prelude.{◌≡◌, ◌<◌, ◌+◌, ◌*◌, [], ◌∷◌, ◌++◌, ◌||◌, not, reverse, IfOk, OnOk};
 ghost use Rattle.zc_num.specs.Limits.{is_fixed, total_of};
-ghost use Rattle.zc_damage.specs.Places.{has_place, IsPlace};
+ghost use Rattle.zc_damage.specs.Places.{chain_has, IsPlace};
 ghost use Rattle.zc_state.specs.Reading.{may_follow};
 ghost use Rattle.zc_image.specs.Seen.{Knows};
 
@@ -45,7 +45,7 @@ impl Trail {
     fn is_free(&self, at: &PlaceAt) -> bool
         requires { IsPlace self.now.limits.devices self.now.limits.places at.now.device at.now.place }
         ensures { result ≡ not (is_fixed self.now.limits.devices self.now.limits.places at.now.device at.now.place
-            || has_place self.now.limits.places (reverse self.now.places) (at.now.device * self.now.limits.places + at.now.place)) }
+            || chain_has self.now.limits.places (reverse self.now.places) (at.now.device * self.now.limits.places + at.now.place)) }
     {
         !(self.limits.is_fixed(at.device, at.place) || self.seen[self.number_of(at)])
     }

@@ -7,7 +7,7 @@ use Rattle.zc_io.specs.declared.calls.Calls.{Calls}
 abbrev pub fails_next : Calls → Bool
 fails_next c = list_any (λ listed. listed == c.asked + 1) c.failing.items
 
--- the counts once a call was made: both end at 2^64 - 1, and no number behind it can be listed
+-- the counts once a call was made: both end at 2^64 - 1, and no number after it can be listed
 abbrev pub after_call : Calls → Calls
 after_call c = record c {
   asked = min (c.asked + 1) (2 ^ 64 - 1);

@@ -1,6 +1,6 @@
 -- How a shelf in memory hands a disk set out.
 use Rattle.std.specs.Prelude.{◌≡◌, true, [], Some, None}
-use Rattle.zc_io.specs.declared.slots.Held.{Held}
+use Rattle.zc_io.specs.declared.slots.Stored.{Stored}
 use Rattle.zc_tape.specs.Crash.{reads}
 use Rattle.zc_tape.specs.Memory.{shape_of, faults_of, tape_of, failing_of, asked_of}
 use Rattle.zc_tape.specs.declared.memory.MemoryDisks.{MemoryDisks}
@@ -21,7 +21,7 @@ pub record IsAnew (before after : MemoryDisks) : Type 0 where
   pub faults : faults_of after ≡ 0
 
 -- the set that is handed out is the one that lay there
-abbrev pub IsHandedOut : Held → MemoryDisks → Type 0
+abbrev pub IsHandedOut : Stored → MemoryDisks → Type 0
 IsHandedOut held disks = elim held.laid [
   | Some unused ↦ IsForgiven unused.disks disks
   | None ↦ elim held.given [ Some before ↦ IsAnew before disks | None ↦ ⊥ ]

@@ -2,7 +2,7 @@ pub mod Stream
 pub mod Stock
 pub mod Calls
 pub mod Memory
-pub mod Gives
+pub mod GivenBack
 pub mod Slots
 pub mod HandOut
 pub mod MemoryShelf

@@ -1,14 +1,14 @@
 -- What a shelf in memory holds, and what it tells.
 use Rattle.std.specs.Prelude.{◌+◌, ℕ, true, List, Option}
-use Rattle.zc_io.specs.Gives.{gives_of, faults_given}
+use Rattle.zc_io.specs.GivenBack.{gives_of, faults_given}
 use Rattle.zc_io.specs.Slots.{under, is_here, disks_in}
 use Rattle.zc_io.specs.Stock.{Stock, Gave}
 use Rattle.zc_io.specs.declared.memory_shelf.MemoryShelf.{MemoryShelf}
-use Rattle.zc_io.specs.declared.slots.Held.{Held}
+use Rattle.zc_io.specs.declared.slots.Stored.{Stored}
 use Rattle.zc_tape.specs.declared.memory.MemoryDisks.{MemoryDisks}
 
 -- what stands under a name
-abbrev pub stands : MemoryShelf → List ℕ → Held
+abbrev pub stands : MemoryShelf → List ℕ → Stored
 stands shelf = under shelf.slots
 
 -- the disk set that lies under a name
@@ -16,7 +16,7 @@ abbrev pub lying : MemoryShelf → List ℕ → Option MemoryDisks
 lying shelf name = disks_in (stands shelf name)
 
 -- what is told of a shelf by what stands under each name, and by the sets that were given back
-abbrev pub stock_by : (List ℕ → Held) → List Gave → Stock
+abbrev pub stock_by : (List ℕ → Stored) → List Gave → Stock
 stock_by holds gives = record { told = true; here = λ name. is_here (holds name); out = λ name. (holds name).out; gives = gives }
 
 -- what the shelf tells: all

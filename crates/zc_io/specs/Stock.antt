@@ -51,7 +51,7 @@ abbrev pub IsHere : Stock → List ℕ → Bool → Type 0
 IsHere s name answer = IsTrue s.told → s.here name ≡ answer
 
 -- no call stands on the tape, and no call has failed
-pub record IsFresh (tape : Tape) (faults : ℕ) : Type 0 where
+pub record IsUncalled (tape : Tape) (faults : ℕ) : Type 0 where
   pub calls : tape.calls ≡ []
   pub faults_none : faults ≡ 0
 

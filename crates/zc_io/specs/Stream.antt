@@ -7,10 +7,10 @@ pub record Stream : Type 0 where
   pub bytes : List ℕ
 
 -- the bytes that a source gave are the front of what it had left, where it tells that
-abbrev pub Gives : Stream → Stream → List ℕ → Type 0
-Gives old new given = IsTrue old.told → old.bytes ≡ given ++ new.bytes
+abbrev pub GivesFront : Stream → Stream → List ℕ → Type 0
+GivesFront old new given = IsTrue old.told → old.bytes ≡ given ++ new.bytes
 
--- a sink took these bytes behind those before, where it tells them
+-- a sink took these bytes after those before, where it tells them
 abbrev pub Takes : Stream → Stream → List ℕ → Type 0
 Takes old new taken = IsTrue old.told → new.bytes ≡ old.bytes ++ taken
 

@@ -4,19 +4,16 @@ ghost use Rattle.std.specs.Vec.{vec_len};
 ghost use Rattle.zc_tape.specs.Cause.{Rose, HasCause};
 ghost use Rattle.zc_tape.specs.Tape.{Shape, Tape};
 
+use crate::device_file::{DeviceFile, sync_each};
 use std::alloc::AllocError;
 use std::fs::OpenFile;
-use std::io;
-use std::io::{Read, Seek, SeekFrom, Write};
+use std::os::unix::fs::FileExt;
 use zc_tape::{DiskSet, Failed};
 
-/// The bytes of a place.
-pub(crate) const PLACE: u64 = 4096;
-
-/// Place p of device k is the bytes from 4,096 · p on of file k. What they are is told to nobody.
+/// Place p of device k is place p of file k. What its bytes are is told to nobody.
 #[derive(Drop)]
 pub struct FileDisks<F> {
-    files: Vec<F>,
+    files: Vec<DeviceFile<F>>,
     devices: u32,
     places: u32,
     faults: u64,
@@ -24,7 +21,7 @@ pub struct FileDisks<F> {
 }
 
 impl<F> FileDisks<F> {
-    pub(crate) fn new(files: Vec<F>, devices: u32, places: u32) -> FileDisks<F>
+    pub(crate) fn new(files: Vec<DeviceFile<F>>, devices: u32, places: u32) -> FileDisks<F>
         requires { vec_len files ≡ devices }
         ensures devices { result.devices ≡ devices }
         ensures places { result.places ≡ places }
@@ -61,24 +58,7 @@ impl<F> FileDisks<F> {
     }
 }
 
-fn read_place(file: &mut (impl Read + Seek), place: u32, out: &mut [u8; 4096]) -> io::Result<()> {
-    file.seek(SeekFrom::Start(u64::from(place) * PLACE))?;
-    file.read_exact(out)
-}
-
-fn write_place(file: &mut (impl Write + Seek), place: u32, bytes: &[u8; 4096]) -> io::Result<()> {
-    file.seek(SeekFrom::Start(u64::from(place) * PLACE))?;
-    file.write_all(bytes)
-}
-
-pub(crate) fn sync_each<F: OpenFile>(files: &[F]) -> io::Result<()> {
-    for file in files {
-        file.sync_all()?;
-    }
-    Ok(())
-}
-
-impl<F: Read + Write + Seek + OpenFile + Drop> DiskSet for FileDisks<F> {
+impl<F: FileExt + OpenFile + Drop> DiskSet for FileDisks<F> {
     ghost shape = { λ disks. record { devices = disks.devices; places = disks.places } };
 
     ghost faults = { λ disks. disks.faults };
@@ -96,17 +76,17 @@ impl<F: Read + Write + Seek + OpenFile + Drop> DiskSet for FileDisks<F> {
     }
 
     fn read(&mut self, device: u32, place: u32, out: &mut [u8; 4096]) -> Result<(), Failed> {
-        let done = read_place(&mut self.files[device as usize], place, out);
+        let done = self.files[device as usize].read(place, out);
         self.counted(done)
     }
 
     fn write(&mut self, device: u32, place: u32, bytes: &[u8; 4096]) -> Result<(), Failed> {
-        let done = write_place(&mut self.files[device as usize], place, bytes);
+        let done = self.files[device as usize].write(place, bytes);
         self.counted(done)
     }
 
     fn sync(&mut self) -> Result<(), Failed> {
-        let done = sync_each(self.files.as_slice());
+        let done = sync_each(self.files.as_mut_slice());
         self.counted(done)
     }
 

@@ -4,12 +4,14 @@ ghost use Rattle.std.specs.Vec.{vec_len};
 ghost use Rattle.zc_io.specs.Stock.{Stock};
 ghost use Rattle.zc_tape.specs.Cause.{Rose};
 
-use crate::file_disks::{FileDisks, PLACE, sync_each};
+use crate::device_file::{DeviceFile, PLACE, sync_each};
+use crate::file_disks::FileDisks;
 use crate::shelf::{Shelf, ShelfFault};
 use std::alloc::Global;
 use std::fs::{Files, OpenFile, OpenOptions};
 use std::io;
-use std::io::{ErrorKind, Read, Seek, Write};
+use std::io::ErrorKind;
+use std::os::unix::fs::FileExt;
 use zc_num::Name;
 use zc_tape::Failed;
 
@@ -82,16 +84,16 @@ fn open_device<R: Files>(
 }
 
 // The places of each device, where the files have one length and it is a number of places.
-fn places_of<F: OpenFile>(files: &[F]) -> Option<u32> {
+fn places_of<F: OpenFile>(files: &[DeviceFile<F>]) -> Option<u32> {
     let mut all = None;
     for file in files {
-        let Ok(metadata) = file.metadata() else {
+        let Ok(length) = file.length() else {
             return None;
         };
-        if all.is_some_and(|length| length != metadata.len()) {
+        if all.is_some_and(|other| other != length) {
             return None;
         }
-        all = Some(metadata.len());
+        all = Some(length);
     }
     let length = all?;
     if length % PLACE != 0 {
@@ -112,7 +114,9 @@ fn open_set<R: Files>(
     let mut found = Vec::new(alloc);
     for device in 0..MOST_DEVICES {
         match open_device(alloc, files, name, device)? {
-            Some(file) => found.push(file).map_err(|_| ShelfFault::NoMemory)?,
+            Some(file) => found
+                .push(DeviceFile::new(file))
+                .map_err(|_| ShelfFault::NoMemory)?,
             None => break,
         }
     }
@@ -122,7 +126,7 @@ fn open_set<R: Files>(
     let Some(places) = places_of(found.as_slice()) else {
         return Err(ShelfFault::Failed);
     };
-    if sync_each(found.as_slice()).is_err() {
+    if sync_each(found.as_mut_slice()).is_err() {
         return Err(ShelfFault::Failed);
     }
     let devices = found.len() as u32;
@@ -158,9 +162,9 @@ fn remove_devices<R: Files>(alloc: Global, files: &R, name: &Name, devices: u32)
 }
 
 // Makes the files to durable zero bytes.
-fn fill_each<F: OpenFile>(made: &[F], places: u32) -> io::Result<()> {
-    for file in made {
-        file.set_len(u64::from(places) * PLACE)?;
+fn fill_each<F: OpenFile>(made: &mut [DeviceFile<F>], places: u32) -> io::Result<()> {
+    for file in made.iter_mut() {
+        file.resize(places)?;
     }
     sync_each(made)
 }
@@ -171,7 +175,7 @@ fn create_each<R: Files>(
     files: &R,
     name: &Name,
     devices: u32,
-    made: &mut Vec<R::File>,
+    made: &mut Vec<DeviceFile<R::File>>,
 ) -> Result<(), ShelfFault>
     requires { vec_len made.old ≡ 0 }
     ensures present { IsErrOf result ShelfFault.Present → ⊥ }
@@ -182,12 +186,13 @@ fn create_each<R: Files>(
     for device in 0..devices {
         made.reserve(1).map_err(|_| ShelfFault::NoMemory)?;
         let file = create_device(alloc, files, name, device)?;
-        made.push(file).map_err(|_| ShelfFault::NoMemory)?;
+        made.push(DeviceFile::new(file))
+            .map_err(|_| ShelfFault::NoMemory)?;
     }
     Ok(())
 }
 
-// Makes a disk set where no file of its devices, or of the one behind them, is there. What was made of it on an error
+// Makes a disk set where no file of its devices, or of the one after them, is there. What was made of it on an error
 // is removed.
 fn make_set<R: Files>(
     alloc: Global,
@@ -207,7 +212,7 @@ fn make_set<R: Files>(
     }
     let mut made = Vec::new(alloc);
     let mut done = create_each(alloc, files, name, devices, &mut made);
-    if done.is_ok() && fill_each(made.as_slice(), places).is_err() {
+    if done.is_ok() && fill_each(made.as_mut_slice(), places).is_err() {
         done = Err(ShelfFault::Failed);
     }
     match done {
@@ -221,8 +226,7 @@ fn make_set<R: Files>(
     }
 }
 
-impl<F: Read + Write + Seek + OpenFile + Drop + Send, R: Files<File = F> + Drop> Shelf
-    for FileShelf<R> {
+impl<F: FileExt + OpenFile + Drop + Send, R: Files<File = F> + Drop> Shelf for FileShelf<R> {
     type Disk = FileDisks<F>;
 
     ghost stock = { λ _. record { told = false; here = λ _. false; out = λ _. false; gives = [] } };

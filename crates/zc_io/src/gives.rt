@@ -16,20 +16,20 @@ pub struct Given {
 
 /// The disk sets that were given back. When the program runs, nothing of them is kept here.
 #[derive(Drop)]
-pub struct Gives {
+pub struct GivenBack {
     last: Option<Snapshot<Given>>,
 }
 
-impl Gives {
-    ghost use Rattle.zc_io.specs.Gives.{gives_of, faults_given, gave_of};
+impl GivenBack {
+    ghost use Rattle.zc_io.specs.GivenBack.{gives_of, faults_given, gave_of};
     ghost use Rattle.std.specs.Prelude.{◌+◌};
     ghost use Rattle.zc_tape.specs.Memory.{faults_of};
 
-    pub(crate) fn new() -> Gives
+    pub(crate) fn new() -> GivenBack
         ensures gives { gives_of result ≡ [] }
         ensures faults { faults_given result ≡ 0 }
     {
-        Gives { last: None }
+        GivenBack { last: None }
     }
 
     pub(crate) fn record(&mut self, name: &Name, disks: &MemoryDisks, ok: bool)

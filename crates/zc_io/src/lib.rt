@@ -9,6 +9,7 @@
 #![tactic(auto)]
 
 mod calls;
+mod device_file;
 mod file_disks;
 mod file_shelf;
 mod gives;
@@ -20,8 +21,6 @@ mod sink;
 mod slots;
 mod source;
 mod standard;
-#[cfg(test)]
-mod tests;
 mod unused;
 
 pub use file_disks::FileDisks;

@@ -2,18 +2,18 @@
 ghost use Rattle.std.specs.Prelude.{◌≡◌, ℕ, List, ◌+◌, ◌≤◌, ◌↔◌, ◌⊎◌, [], IfOk, IfErr, OnOk, OnErr, IsErrOf, IsTrue, true, false, not, is_ok, is_err, is_some, IsSome, Some, None, if◌then◌else◌};
 ghost use Rattle.std.specs.Option.{option_copied};
 ghost use Rattle.zc_io.specs.Calls.{fails_next, after_call, IsFirst};
-ghost use Rattle.zc_io.specs.Gives.{faults_given};
+ghost use Rattle.zc_io.specs.GivenBack.{faults_given};
 ghost use Rattle.zc_io.specs.HandOut.{IsHandedOut};
 ghost use Rattle.zc_io.specs.MemoryShelf.{stands, lying, stock_of, shelf_faults};
 ghost use Rattle.zc_io.specs.Slots.{nothing, with_held, taken_out, brought_back, IsLaid};
-ghost use Rattle.zc_io.specs.Stock.{HandsOut, HandsBack, KeepsStock, IsHere, IsFresh, IsBlank, with_answer};
+ghost use Rattle.zc_io.specs.Stock.{HandsOut, HandsBack, KeepsStock, IsHere, IsUncalled, IsBlank, with_answer};
 ghost use Rattle.zc_tape.specs.Cause.{Rose, HasCause};
 ghost use Rattle.zc_tape.specs.Memory.{shape_of, faults_of, tape_of, failing_of};
 
 use crate::calls::Calls;
-use crate::gives::Gives;
+use crate::gives::GivenBack;
 use crate::shelf::{Shelf, ShelfFault};
-use crate::slots::{Held, Slots};
+use crate::slots::{Slots, Stored};
 use crate::unused::Unused;
 use std::alloc::Global;
 use zc_num::{Name, NoMemory};
@@ -25,7 +25,7 @@ pub struct MemoryShelf {
     alloc: Global,
     slots: Slots,
     calls: Calls,
-    gives: Gives,
+    gives: GivenBack,
 }
 
 impl MemoryShelf {
@@ -46,7 +46,7 @@ impl MemoryShelf {
             alloc,
             slots: Slots::new(alloc),
             calls,
-            gives: Gives::new(),
+            gives: GivenBack::new(),
         })
     }
 
@@ -75,7 +75,7 @@ impl MemoryShelf {
     {
         match self.slots.reserve(name) {
             Ok(()) => {
-                let _ = self.slots.exchange(name, Held::laid(disk));
+                let _ = self.slots.exchange(name, Stored::laid(disk));
                 Ok(())
             }
             Err(fault) => Err((fault, disk)),
@@ -84,7 +84,7 @@ impl MemoryShelf {
 
     // Hands out a new set under a name where none lies.
     fn make_set(&mut self, name: &Name, devices: u32, places: u32) -> Result<MemoryDisks, NoMemory>
-        ensures fresh { IfOk result (λ disk. IsFresh (tape_of disk) (faults_of disk)) }
+        ensures fresh { IfOk result (λ disk. IsUncalled (tape_of disk) (faults_of disk)) }
         ensures shape { IfOk result (λ disk. shape_of disk ≡ record { devices = devices; places = places }) }
         ensures blank { IfOk result (λ disk. IsBlank (shape_of disk) (tape_of disk)) }
         ensures failing { IfOk result (λ disk. failing_of disk ≡ []) }
@@ -95,7 +95,7 @@ impl MemoryShelf {
     {
         let disks = MemoryDisks::new(self.alloc, devices, places, &[])?;
         self.slots.reserve(name)?;
-        let _ = self.slots.exchange(name, Held::out());
+        let _ = self.slots.exchange(name, Stored::out());
         Ok(disks)
     }
 }
@@ -118,7 +118,7 @@ impl Shelf for MemoryShelf {
         ensures told { (stock_of self.new).told ≡ (stock_of self.old).told }
         ensures handed { OnOk result (HandsOut (stock_of self.old) (stock_of self.new) name.now) }
         ensures there { OnOk result (IsHere (stock_of self.old) name.now true) }
-        ensures fresh { IfOk result (λ disk. IsFresh (tape_of disk) (faults_of disk)) }
+        ensures fresh { IfOk result (λ disk. IsUncalled (tape_of disk) (faults_of disk)) }
         ensures kept { OnErr result (KeepsStock (stock_of self.old) (stock_of self.new)) }
         ensures missing { IsErrOf result ShelfFault.Missing → IsHere (stock_of self.old) name.now false }
         ensures never_present { IsErrOf result ShelfFault.Present → ⊥ }
@@ -131,7 +131,7 @@ impl Shelf for MemoryShelf {
         if self.slots.disks(name).is_none() {
             return Err(ShelfFault::Missing);
         }
-        match self.slots.exchange(name, Held::out()).hand_out() {
+        match self.slots.exchange(name, Stored::out()).hand_out() {
             Some(disks) => Ok(disks),
             None => Err(ShelfFault::Missing),
         }
@@ -147,7 +147,7 @@ impl Shelf for MemoryShelf {
         ensures told { (stock_of self.new).told ≡ (stock_of self.old).told }
         ensures handed { OnOk result (HandsOut (stock_of self.old) (stock_of self.new) name.now) }
         ensures absent { OnOk result (IsHere (stock_of self.old) name.now false) }
-        ensures fresh { IfOk result (λ disk. IsFresh (tape_of disk) (faults_of disk)) }
+        ensures fresh { IfOk result (λ disk. IsUncalled (tape_of disk) (faults_of disk)) }
         ensures shape { IfOk result (λ disk. shape_of disk ≡ record { devices = devices; places = places }) }
         ensures blank { IfOk result (λ disk. IsBlank (shape_of disk) (tape_of disk)) }
         ensures kept { OnErr result (KeepsStock (stock_of self.old) (stock_of self.new)) }

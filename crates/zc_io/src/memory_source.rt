@@ -1,7 +1,7 @@
 // A source in memory, for tests.
 ghost use Rattle.std.specs.Prelude.{◌≡◌, ℕ, ◌<◌, ◌≤◌, length, min, take, drop, [], IfOk, OnErr, IsTrue, is_err, true};
 ghost use Rattle.zc_tape.specs.Cause.{HasCause};
-ghost use Rattle.zc_io.specs.Stream.{Gives, Keeps};
+ghost use Rattle.zc_io.specs.Stream.{GivesFront, Keeps};
 ghost use Rattle.zc_io.specs.Calls.{fails_next, after_call, IsFirst};
 
 use crate::calls::Calls;
@@ -86,7 +86,7 @@ impl Source for MemorySource {
         ensures amount { IfOk result (λ n. n ≡ min self.old.most (min (length out.old) (length (left_of self.old)))) }
         ensures count { IfOk result (λ n. n ≤ length out.old) }
         ensures told { (stream_left self.new).told ≡ (stream_left self.old).told }
-        ensures given { IfOk result (λ n. Gives (stream_left self.old) (stream_left self.new) (take n out.new)) }
+        ensures given { IfOk result (λ n. GivesFront (stream_left self.old) (stream_left self.new) (take n out.new)) }
         ensures end { 0 < length out.old → IfOk result (λ n. n ≡ 0 → IsTrue (stream_left self.old).told → (stream_left self.old).bytes ≡ []) }
         ensures kept { OnErr result (Keeps (stream_left self.old) (stream_left self.new)) }
         ensures cause { HasCause self.old.calls.faults self.new.calls.faults result }

@@ -1,7 +1,7 @@
 // Where disk sets lie between two runs.
 ghost use Rattle.std.specs.Prelude.{◌≡◌, ℕ, ◌≤◌, true, false, IfOk, OnOk, OnErr, IsErrOf, IsTrue, is_ok, ◌⊎◌};
 ghost use Rattle.zc_tape.specs.Cause.{Rose, HasCause};
-ghost use Rattle.zc_io.specs.Stock.{Stock, Gave, HandsOut, HandsBack, KeepsStock, IsHere, IsFresh, IsBlank};
+ghost use Rattle.zc_io.specs.Stock.{Stock, Gave, HandsOut, HandsBack, KeepsStock, IsHere, IsUncalled, IsBlank};
 
 use zc_num::Name;
 use zc_tape::{DiskSet, Failed};
@@ -35,7 +35,7 @@ pub trait Shelf {
         ensures told { (stock self.new).told ≡ (stock self.old).told }
         ensures handed { OnOk result (HandsOut (stock self.old) (stock self.new) name.now) }
         ensures there { OnOk result (IsHere (stock self.old) name.now true) }
-        ensures fresh { IfOk result (λ disk. IsFresh (Self.Disk.tape disk) (Self.Disk.faults disk)) }
+        ensures fresh { IfOk result (λ disk. IsUncalled (Self.Disk.tape disk) (Self.Disk.faults disk)) }
         ensures kept { OnErr result (KeepsStock (stock self.old) (stock self.new)) }
         ensures missing { IsErrOf result ShelfFault.Missing → IsHere (stock self.old) name.now false }
         ensures never_present { IsErrOf result ShelfFault.Present → ⊥ }
@@ -51,7 +51,7 @@ pub trait Shelf {
         ensures told { (stock self.new).told ≡ (stock self.old).told }
         ensures handed { OnOk result (HandsOut (stock self.old) (stock self.new) name.now) }
         ensures absent { OnOk result (IsHere (stock self.old) name.now false) }
-        ensures fresh { IfOk result (λ disk. IsFresh (Self.Disk.tape disk) (Self.Disk.faults disk)) }
+        ensures fresh { IfOk result (λ disk. IsUncalled (Self.Disk.tape disk) (Self.Disk.faults disk)) }
         ensures shape { IfOk result (λ disk. Self.Disk.shape disk ≡ record { devices = devices; places = places }) }
         ensures blank { IfOk result (λ disk. IsBlank (Self.Disk.shape disk) (Self.Disk.tape disk)) }
         ensures kept { OnErr result (KeepsStock (stock self.old) (stock self.new)) }

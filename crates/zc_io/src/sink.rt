@@ -10,7 +10,7 @@ pub enum SinkFault {
     NoMemory,
 }
 
-/// Takes bytes, one behind the other.
+/// Takes bytes, one after the other.
 pub trait Sink {
     /// The bytes that were taken, where the sink tells them.
     ghost taken: { Self → Stream };

@@ -15,7 +15,7 @@ use zc_tape::MemoryDisks;
 /// What stands under a name: a set that was laid there, or one that was given back; and whether the name is
 /// handed out.
 #[derive(Drop)]
-pub struct Held {
+pub struct Stored {
     laid: Option<Unused>,
     given: Option<MemoryDisks>,
     out: bool,
@@ -24,7 +24,7 @@ pub struct Held {
 #[derive(Drop)]
 pub struct Slot {
     name: Name,
-    held: Held,
+    held: Stored,
 }
 
 /// The names of a shelf. What stands under a name that no slot has is nothing.
@@ -48,7 +48,7 @@ fn index_of(slots: &[Slot], name: &Name) -> Option<usize>
 }
 
 // The disk set that lies there.
-fn disks_of(held: &Held) -> Option<&MemoryDisks>
+fn disks_of(held: &Stored) -> Option<&MemoryDisks>
     ensures { option_copied result ≡ disks_in held.now }
 {
     match &held.laid {
@@ -58,7 +58,7 @@ fn disks_of(held: &Held) -> Option<&MemoryDisks>
 }
 
 // Ends a handing out.
-fn end_out(held: &mut Held, disks: Option<MemoryDisks>)
+fn end_out(held: &mut Stored, disks: Option<MemoryDisks>)
     ensures { held.new ≡ brought_back held.old disks }
 {
     held.out = false;
@@ -68,12 +68,12 @@ fn end_out(held: &mut Held, disks: Option<MemoryDisks>)
     }
 }
 
-impl Held {
+impl Stored {
     /// Under a name that is handed out.
-    pub(crate) fn out() -> Held
+    pub(crate) fn out() -> Stored
         ensures { result ≡ taken_out }
     {
-        Held {
+        Stored {
             laid: None,
             given: None,
             out: true,
@@ -81,12 +81,12 @@ impl Held {
     }
 
     /// Under a name where a set with no call on its tape was laid.
-    pub(crate) fn laid(disks: MemoryDisks) -> Held
+    pub(crate) fn laid(disks: MemoryDisks) -> Stored
         requires { length (tape_of disks).calls ≡ 0 }
         ensures laid { option_map (λ unused. unused.disks) result.laid ≡ Some disks }
         ensures out { result.out ≡ false }
     {
-        Held {
+        Stored {
             laid: Some(Unused::of(disks)),
             given: None,
             out: false,
@@ -97,7 +97,7 @@ impl Held {
     pub(crate) fn hand_out(self) -> Option<MemoryDisks>
         ensures { MatchOption result (disks_in self ≡ None) (IsHandedOut self) }
     {
-        let Held {
+        let Stored {
             laid,
             given,
             out: _,
@@ -126,7 +126,7 @@ impl Slots {
         if slot_of(&self.slots, name).is_none() {
             let slot = Slot {
                 name: name.clone()?,
-                held: Held {
+                held: Stored {
                     laid: None,
                     given: None,
                     out: false,
@@ -138,7 +138,7 @@ impl Slots {
     }
 
     /// Puts something else under a name, and answers what stood there.
-    pub(crate) fn exchange(&mut self, name: &Name, held: Held) -> Held
+    pub(crate) fn exchange(&mut self, name: &Name, held: Stored) -> Stored
         requires { has_slot self.old name.now ≡ true }
         ensures before { result ≡ under self.old name.now }
         ensures after { under self.new ≡ with_held (under self.old) name.now held }

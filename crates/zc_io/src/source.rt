@@ -1,7 +1,7 @@
 // Where a script comes from.
 ghost use Rattle.std.specs.Prelude.{◌≡◌, ℕ, ◌<◌, ◌≤◌, length, take, [], IfOk, OnErr, IsTrue};
 ghost use Rattle.zc_tape.specs.Cause.{HasCause};
-ghost use Rattle.zc_io.specs.Stream.{Stream, Gives, Keeps};
+ghost use Rattle.zc_io.specs.Stream.{Stream, GivesFront, Keeps};
 
 use zc_tape::Failed;
 
@@ -21,7 +21,7 @@ pub trait Source {
     fn read(&mut self, out: &mut [u8]) -> Result<usize, Failed>
         ensures count { IfOk result (λ n. n ≤ length out.old) }
         ensures told { (left self.new).told ≡ (left self.old).told }
-        ensures given { IfOk result (λ n. Gives (left self.old) (left self.new) (take n out.new)) }
+        ensures given { IfOk result (λ n. GivesFront (left self.old) (left self.new) (take n out.new)) }
         ensures end { 0 < length out.old → IfOk result (λ n. n ≡ 0 → IsTrue (left self.old).told → (left self.old).bytes ≡ []) }
         ensures kept { OnErr result (Keeps (left self.old) (left self.new)) }
         ensures cause { HasCause (faults self.old) (faults self.new) result };

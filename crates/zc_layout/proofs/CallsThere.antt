@@ -13,7 +13,7 @@ use Rattle.zc_root.proofs.RootLaws.{slot_below}
 use Rattle.zc_layout.specs.Layout.{Put, owns}
 use Rattle.zc_layout.specs.Standing.{write_of, closing, first_writes, group_calls}
 use Rattle.zc_layout.specs.Creation.{clearing_calls, zeroing_calls, creation_calls}
-use Rattle.zc_layout.proofs.LayoutLaws.{owns_first, owns_behind}
+use Rattle.zc_layout.proofs.LayoutLaws.{owns_first, owns_after}
 
 -- each place that the puts own is there
 abbrev pub ArePutsThere : Shape → List Put → Type 0
@@ -35,7 +35,7 @@ puts_there : (shape : Shape) (puts : List Put) → ArePutsThere shape puts → A
 puts_there shape [] there = no_calls_there shape
 puts_there shape (put ∷ puts) there =
     there_first shape (write_of put) (map write_of puts) (there put.at.device put.at.place (owns_first put puts))
-    (puts_there shape puts (λ d p e. there d p (owns_behind put puts d p e)))
+    (puts_there shape puts (λ d p e. there d p (owns_after put puts d p e)))
 
 closing_there : (shape : Shape) (group : ℕ) (gate_open : Bool) → 1 ≤ shape.devices → 4 ≤ shape.places → AreThere shape (closing group gate_open)
 closing_there shape group true devices places =

@@ -98,7 +98,7 @@ module _ (image : Image) (first_open second_open : Bool) (first : IsTrue first_o
 
 -- ---- bodies and logs are zeroed
 
--- zeros to so many places behind the roots
+-- zeros to so many places after the roots
 abbrev pub log_writes : ℕ → List Call
 log_writes logs = each logs (λ k. Write 0 (4 + k) closed)
 
@@ -113,7 +113,7 @@ log_is_writes logs = are_writes_map (λ (k : ℕ). 0) (λ k. 4 + k) (λ k. close
 pub zeroing_is_writes : (logs : ℕ) → AreWrites (zeroing_writes logs)
 zeroing_is_writes logs = log_is_writes logs
 
--- the logs lie behind the roots
+-- the logs lie after the roots
 low_elsewhere : (ks : List ℕ) (p : ℕ) → p < 4 → writes_at (map (λ k. Write 0 (4 + k) closed) ks) 0 p ≡ false
 low_elsewhere [] p low = refl
 low_elsewhere (k ∷ ks) p low =

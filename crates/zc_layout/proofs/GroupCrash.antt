@@ -149,11 +149,11 @@ pub group_unwritten : (crash : Crash) (t u : Tape) (puts : List Put) (body : Bod
 group_unwritten crash t u puts body gate_open kind rests begun i image from upto left d p free gate_apart body_apart =
     unwritten crash t u (group_calls puts body gate_open) kind rests begun i image from upto left d p (group_elsewhere puts body gate_open d p free gate_apart body_apart)
 
--- so every place behind the roots, as those of the logs, but the puts'
-pub group_unwritten_behind : (crash : Crash) (t u : Tape) (puts : List Put) (body : Body) (gate_open : Bool)
+-- so every place after the roots, as those of the logs, but the puts'
+pub group_unwritten_after : (crash : Crash) (t u : Tape) (puts : List Put) (body : Body) (gate_open : Bool)
     → IsKind crash → AtRest t → Begun t (group_calls puts body gate_open) u
     → EachCrash crash u (length t.calls) (λ _ image. (d p : ℕ) → owns puts d p ≡ false → (d ≡ 0 → p < 4 → ⊥) → image d p ≡ reads t d p)
-group_unwritten_behind crash t u puts body gate_open kind rests begun i image from upto left d p free behind =
+group_unwritten_after crash t u puts body gate_open kind rests begun i image from upto left d p free behind =
     group_unwritten crash t u puts body gate_open kind rests begun i image from upto left d p free
     (not_at_roots (gate_place (slot_of body.group)) d p (omega (arith, slot_below body.group)) behind)
     (not_at_roots (body_place (slot_of body.group)) d p (omega (arith, slot_below body.group)) behind)

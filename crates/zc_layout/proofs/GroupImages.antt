@@ -18,7 +18,7 @@ use Rattle.zc_layout.proofs.LayoutLaws.{are_writes_of_puts, writes_of_puts, owns
 pub elsewhere : (place p : ℕ) → (p ≡ place → ⊥) → is_at 0 place 0 p ≡ false
 elsewhere place p differ = is_at_other 0 place 0 p (λ _ e. differ (sym e))
 
--- a place behind the roots is no place of a slot
+-- a place after the roots is no place of a slot
 pub not_at_roots : (place d p : ℕ) → place < 4 → (d ≡ 0 → p < 4 → ⊥) → is_at 0 place d p ≡ false
 not_at_roots place d p low far = is_at_other 0 place d p (λ ed ep. far (sym ed) (subst (λ n. n < 4) ep low))
 

@@ -30,8 +30,8 @@ pub owns_first : (put : Put) (puts : List Put) → owns (put ∷ puts) put.at.de
 owns_first put puts = or_left (is_at put.at.device put.at.place put.at.device put.at.place) (owns puts put.at.device put.at.place) (is_at_here put.at.device put.at.place)
 
 -- the places of the rest
-pub owns_behind : (put : Put) (puts : List Put) (d p : ℕ) → owns puts d p ≡ true → owns (put ∷ puts) d p ≡ true
-owns_behind put puts d p e = or_right (is_at put.at.device put.at.place d p) (owns puts d p) e
+pub owns_after : (put : Put) (puts : List Put) (d p : ℕ) → owns puts d p ≡ true → owns (put ∷ puts) d p ≡ true
+owns_after put puts d p e = or_right (is_at put.at.device put.at.place d p) (owns puts d p) e
 
 -- the places of both lists
 pub owns_append : (xs ys : List Put) (d p : ℕ) → owns (xs ++ ys) d p ≡ (owns xs d p || owns ys d p)
@@ -63,7 +63,7 @@ pub distinct_append : (xs ys : List Put) → AreDistinct xs → AreDistinct ys �
 distinct_append [] ys dx dy apart = dy
 distinct_append (put ∷ xs) ys dx dy apart = (
   owns_not_both xs ys put.at.device put.at.place dx.0 (apart put.at.device put.at.place (owns_first put xs)),
-  distinct_append xs ys dx.1 dy (λ d p e. apart d p (owns_behind put xs d p e)),
+  distinct_append xs ys dx.1 dy (λ d p e. apart d p (owns_after put xs d p e)),
 )
 
 -- ---- blocks at places
@@ -108,7 +108,7 @@ pub holds_where_agrees : (before later : Image) (puts : List Put) → Agrees put
 holds_where_agrees before later [] agrees holds = tt
 holds_where_agrees before later (put ∷ puts) agrees holds = (
   agrees put.at.device put.at.place (owns_first put puts) ∙ holds.0,
-  holds_where_agrees before later puts (λ d p e. agrees d p (owns_behind put puts d p e)) holds.1,
+  holds_where_agrees before later puts (λ d p e. agrees d p (owns_after put puts d p e)) holds.1,
 )
 
 -- both of two lists
@@ -213,7 +213,7 @@ among_back put (other ∷ xs) ys among = inr (among_back put xs ys among)
 pub among_owns : (put : Put) (puts : List Put) (d p : ℕ) → IsAmong put puts → is_at put.at.device put.at.place d p ≡ true → owns puts d p ≡ true
 among_owns put [] d p among here = absurd among
 among_owns put (other ∷ puts) d p (inl e) here = or_left (is_at other.at.device other.at.place d p) (owns puts d p) (subst (λ (one : Put). is_at one.at.device one.at.place d p ≡ true) e here)
-among_owns put (other ∷ puts) d p (inr later) here = owns_behind other puts d p (among_owns put puts d p later here)
+among_owns put (other ∷ puts) d p (inr later) here = owns_after other puts d p (among_owns put puts d p later here)
 
 -- a place that neither list owns is none of what they cover
 pub covers_free : (wanted puts old : List Put) (d p : ℕ) → Covers wanted puts old → owns puts d p ≡ false → owns old d p ≡ false → owns wanted d p ≡ false

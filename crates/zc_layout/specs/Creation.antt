@@ -11,7 +11,7 @@ use Rattle.zc_layout.specs.Standing.{closing, group_calls}
 abbrev pub clearing_calls : Bool → Bool → List Call
 clearing_calls first_open second_open = closing 0 first_open ++ (closing 1 second_open ++ (if first_open || second_open then Sync ∷ [] else []))
 
--- zeros to both bodies and to so many places of logs behind the roots; a sync
+-- zeros to both bodies and to so many places of logs after the roots; a sync
 abbrev pub zeroing_calls : ℕ → List Call
 zeroing_calls logs = Write 0 (body_place 0) closed ∷ (Write 0 (body_place 1) closed ∷ (each logs (λ k. Write 0 (4 + k) closed) ++ Sync ∷ []))
 

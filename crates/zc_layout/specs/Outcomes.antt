@@ -25,7 +25,7 @@ pub record GroupIsMade (crash : Crash) (u : Tape) (new : Standing) : Type 0 wher
   pub only_new : EachCrash crash u (length u.calls) (λ _ image. Stands image new)
   pub next_gate : IsOpenGate (reads u) (slot_of (new.body.group + 1))
 
--- so many places behind the roots are zeros
+-- so many places after the roots are zeros
 abbrev pub HasZeroLogs : ℕ → Image → Type 0
 HasZeroLogs logs image = (k : ℕ) → k < logs → image 0 (4 + k) ≡ closed
 

@@ -27,7 +27,7 @@ pub each_none : {X : Type 0} (f : ℕ → X) → each 0 f ≡ []
 unfolding each
 each_none f = refl
 
--- one more item goes behind the others
+-- one more item goes after the others
 pub each_more : {X : Type 0} (n : ℕ) (f : ℕ → X) → each (n + 1) f ≡ each n f ++ f n ∷ []
 unfolding each
 each_more n f = map-range_with_len_more f 0 n n (omega arith)
@@ -61,7 +61,7 @@ pub take_each : {X : Type 0} (m n : ℕ) (f : ℕ → X) → m ≤ n → take m 
 unfolding each
 take_each m n f within = take-map-range_with_len f 0 n m within
 
--- the items of two lists, one behind the other
+-- the items of two lists, one after the other
 pub each_append : {X : Type 0} (m n : ℕ) (f : ℕ → X) → each (m + n) f ≡ each m f ++ each n (λ k. f (m + k))
 each_append m n f =
     let back = each n (λ k. f (m + k)) in
@@ -79,7 +79,7 @@ each_append m n f =
     ∙ item_of_each n (λ i. f (m + i)) (k - m) d (omega arith) ∙ ap f place)
     (cases_lt k m)))
 
--- the items behind the first m
+-- the items after the first m
 pub drop_each : {X : Type 0} (m n : ℕ) (f : ℕ → X) → drop m (each (m + n) f) ≡ each n (λ k. f (m + k))
 drop_each m n f = rw each_append (drop_at (each m f) (each n (λ k. f (m + k))) m (length_each m f))
 

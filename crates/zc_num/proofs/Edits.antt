@@ -15,9 +15,9 @@ byte_before_edit block from bytes k d fits before = grind (arith, places)
 pub byte_in_edit : (block : List ℕ) (from : ℕ) (bytes : List ℕ) (k d : ℕ) → from + length bytes ≤ length block → from ≤ k → k < from + length bytes → get_or (edited block from bytes) k d ≡ get_or bytes (k - from) d
 byte_in_edit block from bytes k d fits first last = grind (arith, places)
 
--- a byte behind the last that is written stays
-pub byte_behind_edit : (block : List ℕ) (from : ℕ) (bytes : List ℕ) (k d : ℕ) → from + length bytes ≤ length block → from + length bytes ≤ k → get_or (edited block from bytes) k d ≡ get_or block k d
-byte_behind_edit block from bytes k d fits behind = grind (arith, places)
+-- a byte after the last that is written stays
+pub byte_after_edit : (block : List ℕ) (from : ℕ) (bytes : List ℕ) (k d : ℕ) → from + length bytes ≤ length block → from + length bytes ≤ k → get_or (edited block from bytes) k d ≡ get_or block k d
+byte_after_edit block from bytes k d fits behind = grind (arith, places)
 
 -- a write over the whole block leaves the bytes
 pub edited_whole : (block bytes : List ℕ) → length bytes ≡ length block → edited block 0 bytes ≡ bytes

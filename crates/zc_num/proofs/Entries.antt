@@ -126,7 +126,7 @@ ascends_taken key (e ∷ es) ascends = elim (order_of key e.0) [
   | above more is ↦ rw is (all_taken (λ k. nat_cmp e.0 k ≡ Less) key es ascends.0, ascends_taken key es ascends.1)
 ]
 
--- a key above all others is put behind them
+-- a key above all others is put after them
 pub put_last : {V : Type 0} (key : ℕ) (value : V) (es : List (ℕ × V)) → AllByRecursion (λ (e : ℕ × V). e.0 < key) es → insert_entry key value es ≡ es ++ (key, value) ∷ []
 put_last key value [] lower = refl
 put_last {V} key value (e ∷ es) lower = elim (order_of key e.0) [

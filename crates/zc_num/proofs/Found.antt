@@ -10,7 +10,7 @@ pub record IsFirst {X : Type 0} (test : X → Bool) (k : ℕ) (xs : List X) (ind
   pub passes : (d : X) → test (get_or xs (index - k) d) ≡ true
   pub before : (i : ℕ) (d : X) → i < index - k → test (get_or xs i d) ≡ false
 
--- behind an item that fails, the first is as far as it is among the others
+-- after an item that fails, the first is as far as it is among the others
 behind : {X : Type 0} (test : X → Bool) (k : ℕ) (x : X) (xs : List X) (index : ℕ) → test x ≡ false → IsFirst test (k + 1) xs index → IsFirst test k (x ∷ xs) index
 behind {X} test k x xs index fails first =
     let place : index - k ≡ suc (index - (k + 1)) = omega (arith, first.from) in

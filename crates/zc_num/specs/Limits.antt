@@ -1,5 +1,5 @@
 -- The limits of a pool, each by a formula over its number of devices and the number of places of each device.
-use Rattle.std.specs.Prelude.{◌≡◌, ℕ, ◌+◌, ◌-◌, ◌*◌, ◌/◌, ◌%◌, ◌<◌, ◌≤◌, Bool, ◌==◌, ◌&&◌, nat_lt}
+use Rattle.std.specs.Prelude.{◌≡◌, ℕ, ◌+◌, ◌-◌, ◌*◌, ◌/◌, ◌%◌, ◌<◌, ◌≤◌, Bool, ◌==◌, ◌&&◌, nat_lt, nat_le}
 
 -- a pool may have so many devices of so many places each
 pub record AreLimits (devices places : ℕ) : Type 0 where
@@ -29,14 +29,22 @@ file_bytes_of devices places = pointers_of devices places * 4096
 abbrev pub log_places_of : ℕ → ℕ → ℕ
 log_places_of devices places = total_of devices places / 128
 
+-- the first place, on device 0, of the log area of a slot, one of 0 to 7: the areas stand in a row after the four places of the roots
+abbrev pub log_start_of : ℕ → ℕ → (slot : ℕ) → ℕ
+log_start_of devices places slot = 4 + slot * log_places_of devices places
+
 -- the places that hold neither the catalogue, a quarter of all, nor the eight log areas, nor the roots in their four places
 abbrev pub data_places_of : ℕ → ℕ → ℕ
 data_places_of devices places = total_of devices places - total_of devices places / 4 - 8 * log_places_of devices places - 4
 
--- the place never changes its use: it is one of the four of the roots, or of the eight log areas behind them
+-- the place never changes its use: it is one of the four of the roots, or of the eight log areas after them
 abbrev pub IsFixed : ℕ → ℕ → ℕ → ℕ → Type 0
 IsFixed devices places device place = (device ≡ 0) × (place < 4 + 8 * log_places_of devices places)
 
 -- the same as a test
 abbrev pub is_fixed : ℕ → ℕ → ℕ → ℕ → Bool
 is_fixed devices places device place = (device == 0) && nat_lt place (4 + 8 * log_places_of devices places)
+
+-- the place is one of the eight log areas
+abbrev pub is_log : ℕ → ℕ → (device place : ℕ) → Bool
+is_log devices places device place = (device == 0) && (nat_le 4 place && nat_lt place (4 + 8 * log_places_of devices places))

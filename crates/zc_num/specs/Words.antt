@@ -25,7 +25,7 @@ abbrev pub onto_first : ℕ → List (List ℕ) → List (List ℕ)
 onto_first byte [] = (byte ∷ []) ∷ []
 onto_first byte (piece ∷ pieces) = (byte ∷ piece) ∷ pieces
 
--- the pieces of a text of which a separator ends each; the bytes behind the last separator are a piece where there are some
+-- the pieces of a text of which a separator ends each; the bytes after the last separator are a piece where there are some
 unfoldable pub pieces_ended_by : ℕ → List ℕ → List (List ℕ)
 pieces_ended_by separator [] = []
 pieces_ended_by separator (byte ∷ bytes) =

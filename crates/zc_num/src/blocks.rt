@@ -11,7 +11,7 @@ pub fn blocks_of(offset: u64, length: u64) -> (u64, u64)
     requires fits { offset + length < 2 ^ 63 }
 
     ensures first { result.0 ≡ offset / 4096 }
-    // The block behind the last one is the one behind that of the last byte.
+    // The block after the last one is the one after that of the last byte.
     ensures last { result.0 + result.1 ≡ (offset + length - 1) / 4096 + 1 }
 {
     let first = offset / 4096;

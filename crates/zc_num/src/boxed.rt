@@ -65,7 +65,7 @@ impl Boxed<[u8; BLOCK]> {
     }
 }
 
-// The length of an array is known of a parameter, and of nothing behind a field.
+// The length of an array is known of a parameter, and of nothing after a field.
 fn whole(block: &[u8; BLOCK]) -> &[u8; BLOCK]
     ensures bytes { result.now ≡ block.now }
     ensures whole { length block.now ≡ 4096 }

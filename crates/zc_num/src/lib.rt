@@ -2,8 +2,8 @@
 // contracts see as plain values.
 //
 // A type that clauses compare with a definition holds no allocator, bare `Vec`, `Box` or map: it holds the types of this crate,
-// which clauses see as a list of bytes (`Name`, `Bytes`), as a list (`Listed`), as the entries of a map in ascending order
-// (`Ordered`), and as the value itself (`Boxed`). Each is a thin layer over the collection of std that it is named after.
+// which clauses see as a list of bytes (`Name`, `Bytes`), as a list (`Listed`, and `Queue`, first in first out), as the entries of
+// a map in ascending order (`Ordered`), and as the value itself (`Boxed`). Each is a thin layer over a collection of std.
 #![tactic(auto)]
 
 mod blocks;
@@ -14,8 +14,7 @@ mod listed;
 mod name;
 mod numbers;
 mod ordered;
-#[cfg(test)]
-mod tests;
+mod queue;
 
 pub use blocks::{BLOCK, blocks_for, blocks_of, edit_block, overlaps};
 pub use boxed::Boxed;
@@ -25,4 +24,5 @@ pub use listed::Listed;
 pub use name::Name;
 pub use numbers::{BlockIndex, DatasetId, DeviceNo, FileId, GroupNo, PlaceAt, PlaceNo};
 pub use ordered::Ordered;
+pub use queue::Queue;
 pub use std::alloc::AllocError as NoMemory;

@@ -1,5 +1,5 @@
-ghost use Rattle.std.specs.Prelude.{◌≡◌, ◌↔◌, IsTrue, IsSome, IfSome};
-ghost use Rattle.zc_num.specs.Limits.{AreLimits, total_of, files_of, pointers_of, file_bytes_of, log_places_of, data_places_of, IsFixed, is_fixed};
+ghost use Rattle.std.specs.Prelude.{◌≡◌, ◌<◌, ◌↔◌, IsTrue, IsSome, IfSome};
+ghost use Rattle.zc_num.specs.Limits.{AreLimits, total_of, files_of, pointers_of, file_bytes_of, log_places_of, log_start_of, data_places_of, IsFixed, is_fixed, is_log};
 
 /// The size of a pool, and what it limits.
 ///
@@ -75,6 +75,14 @@ impl Limits {
         self.total() / 128
     }
 
+    /// The first place of the log area of a dataset's slot, on device 0.
+    pub fn log_start(&self, slot: u32) -> u32
+        requires { slot < 8 }
+        ensures { result ≡ log_start_of self.now.devices self.now.places slot }
+    {
+        4 + slot * self.log_places()
+    }
+
     /// The places that data may take: neither the quarter that is kept for the catalogue, nor the log areas, nor the roots.
     pub fn data_places(&self) -> u32
         ensures { result ≡ data_places_of self.now.devices self.now.places }
@@ -89,5 +97,12 @@ impl Limits {
         ensures test { result ≡ is_fixed self.now.devices self.now.places device place }
     {
         device == 0 && place < 4 + 8 * self.log_places()
+    }
+
+    /// Whether this is a place of a log area.
+    pub fn is_log_place(&self, device: u32, place: u32) -> bool
+        ensures { result ≡ is_log self.now.devices self.now.places device place }
+    {
+        device == 0 && 4 <= place && place < 4 + 8 * self.log_places()
     }
 }

@@ -1,4 +1,4 @@
-ghost use Rattle.std.specs.Prelude.{◌≡◌, ◌-◌, ◌<◌, ◌↔◌, [], ◌∷◌, ◌++◌, length, take, drop, slice_get, slice_set, IsTrue, OnOk, OnErr};
+ghost use Rattle.std.specs.Prelude.{◌≡◌, ◌-◌, ◌<◌, ◌↔◌, [], ◌∷◌, ◌++◌, length, take, slice_get, slice_set, IsTrue, OnOk, OnErr};
 ghost use Rattle.std.specs.Borrow.{sem};
 ghost use Rattle.std.specs.Option.{option_copied};
 ghost use Rattle.std.specs.List.{AllZip, remove};
@@ -95,7 +95,7 @@ impl<T> Listed<T> {
 }
 
 impl<T: Drop> Listed<T> {
-    /// Adds `item` behind the last. Where memory is wanting, it is dropped.
+    /// Adds `item` after the last. Where memory is wanting, it is dropped.
     pub fn push(&mut self, item: T) -> Result<(), NoMemory>
         ensures ok { OnOk result (self.new ≡ self.old ++ item ∷ []) }
         ensures err { OnErr result (self.new ≡ self.old) }
@@ -136,18 +136,7 @@ impl<T> Listed<T> {
         self.vec.pop()
     }
 
-    /// Takes the first item off, if there is one. Moves all others, so its time grows with their number.
-    pub fn take_first(&mut self) -> Option<T>
-        ensures first { result ≡ slice_get self.old 0 }
-        ensures rest { self.new ≡ drop 1 self.old }
-    {
-        if self.vec.is_empty() {
-            return None;
-        }
-        Some(self.vec.remove(0))
-    }
-
-    /// Takes the item at `index` out. Moves all behind it, so its time grows with their number.
+    /// Takes the item at `index` out. Moves all after it, so its time grows with their number.
     pub fn remove(&mut self, index: usize) -> T
         requires { index < length self.old }
         ensures item { slice_get self.old index ≡ Some result }

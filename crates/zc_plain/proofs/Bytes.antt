@@ -29,9 +29,9 @@ take_of_each len n f =
     (λ (all : n ≤ len). let is : min len n ≡ n = omega arith in rw is (take_all len (each n f) (rw length_each all)))
     (cases_lt len n)
 
--- a cut from a list that is given item by item
-pub cut_of_each : {X : Type 0} (size from len : ℕ) (f : ℕ → X) → take len (drop from (each size f)) ≡ each (min len (size - from)) (λ i. f (from + i))
-cut_of_each size from len f =
+-- a part of a list that is given item by item
+pub trimmed_of_each : {X : Type 0} (size from len : ℕ) (f : ℕ → X) → take len (drop from (each size f)) ≡ each (min len (size - from)) (λ i. f (from + i))
+trimmed_of_each size from len f =
     ⊎_elim
     (λ (within : from < size).
     let whole : from + (size - from) ≡ size = omega arith in
@@ -46,4 +46,4 @@ cut_of_each size from len f =
 -- what a read gives, byte by byte
 pub bytes_from_each : (offset len : ℕ) (file : PlainFile) → bytes_from offset len file ≡ each (min len (file.size - offset)) (λ i. byte_of file (offset + i))
 unfolding bytes_from
-bytes_from_each offset len file = cut_of_each file.size offset len (byte_of file)
+bytes_from_each offset len file = trimmed_of_each file.size offset len (byte_of file)

@@ -25,11 +25,11 @@ use Rattle.zc_plain.specs.declared.tally.Tally.{Tally}
 use Rattle.zc_plain.specs.Written.{written}
 use Rattle.zc_plain.specs.Truncated.{truncated}
 use Rattle.zc_plain.specs.IsPlain.{StandsAt, IsPlain}
-use Rattle.zc_plain.specs.Answer.{◌>>=◌, refuse_long, most_datasets, most_files, dataset_place, file_place, dataset_of, path_of, file_of, refuse_end, refuse_charge, room_in_file, blocks_touched, blocks_cut, most_read, mkds, mount, create, put_some, put, write, fill, truncate, read, stat, named_answer, answer}
+use Rattle.zc_plain.specs.Answer.{◌>>=◌, refuse_long, most_datasets, most_files, dataset_place, file_place, dataset_of, path_of, file_of, refuse_end, refuse_charge, room_in_file, blocks_touched, blocks_trimmed, most_read, mkds, mount, create, put_some, put, write, fill, truncate, read, stat, named_answer, answer}
 use Rattle.zc_plain.proofs.NumberedLaws.{one_item}
 use Rattle.zc_plain.proofs.Places.{dataset_there, file_there}
 use Rattle.zc_plain.proofs.OtherLaws.{found_in_changed, new_with_file, file_of_in, found_passes, name_is, other_in_files, other_with_file, other_in_dataset, other_with_dataset}
-use Rattle.zc_plain.proofs.PlainLaws.{behind_test, behind_found, behind_put, next_of, plain_file_at}
+use Rattle.zc_plain.proofs.PlainLaws.{after_test, after_found, after_put, next_of, plain_file_at}
 use Rattle.zc_plain.proofs.WrittenLaws.{name_of_written, read_of_written}
 use Rattle.zc_plain.proofs.TruncatedLaws.{name_of_truncated}
 
@@ -125,13 +125,13 @@ is_removal (Read dataset file offset len) = false
 is_removal (Stat dataset file) = false
 is_removal Commit = false
 
-other_behind_write : (number : ℕ) (tally : Tally) (pool : PlainPool) (owner name : List ℕ) (offset : ℕ) (bytes : List ℕ) (dataset file : List ℕ) → owner ∷ name ∷ [] ≢ dataset ∷ file ∷ []
+other_after_write : (number : ℕ) (tally : Tally) (pool : PlainPool) (owner name : List ℕ) (offset : ℕ) (bytes : List ℕ) (dataset file : List ℕ) → owner ∷ name ∷ [] ≢ dataset ∷ file ∷ []
     → file_of dataset file (next_of pool (write number owner name offset bytes tally pool)) ≡ file_of dataset file pool
 unfolding write
-other_behind_write number tally pool owner name offset bytes dataset file other =
+other_after_write number tally pool owner name offset bytes dataset file other =
     let P = λ (r : Result (Reply × PlainPool) Refusal). file_of dataset file (next_of pool r) ≡ file_of dataset file pool in
-    behind_found P (path_of owner name pool) _ (λ refusal. refl)
-    (λ path found. behind_put P number path offset bytes tally pool (λ refusal. refl) refl (other_in_file owner name path (written number offset bytes) dataset file pool (name_of_written number offset bytes) found other))
+    after_found P (path_of owner name pool) _ (λ refusal. refl)
+    (λ path found. after_put P number path offset bytes tally pool (λ refusal. refl) refl (other_in_file owner name path (written number offset bytes) dataset file pool (name_of_written number offset bytes) found other))
 
 -- a command that takes nothing out changes no file but the one that it names
 other_after_named : (number : ℕ) (tally : Tally) (pool : PlainPool) (command : Command) (dataset file : List ℕ) → is_removal command ≡ false → names_of command ≢ dataset ∷ file ∷ []
@@ -139,17 +139,17 @@ other_after_named : (number : ℕ) (tally : Tally) (pool : PlainPool) (command :
 unfolding mkds mount create fill truncate read stat
 other_after_named number tally pool (Mkds name) dataset file keeps other =
     let P = λ (r : Result (Reply × PlainPool) Refusal). file_of dataset file (next_of pool r) ≡ file_of dataset file pool in
-    behind_test P (is_some (dataset_place name pool)) Eexist _ refl
-    (λ missing. behind_test P (nat_lt most_datasets (length pool.datasets + 1)) _ _ refl
+    after_test P (is_some (dataset_place name pool)) Eexist _ refl
+    (λ missing. after_test P (nat_lt most_datasets (length pool.datasets + 1)) _ _ refl
     (λ few. other_with_dataset name dataset file pool (is_none (dataset_place name pool) missing)))
 other_after_named number tally pool (Rmds name) dataset file keeps other = cc
 other_after_named number tally pool (Mount name) dataset file keeps other =
-    behind_found (λ (r : Result (Reply × PlainPool) Refusal). file_of dataset file (next_of pool r) ≡ file_of dataset file pool) (dataset_of name pool) _ (λ refusal. refl) (λ place found. refl)
+    after_found (λ (r : Result (Reply × PlainPool) Refusal). file_of dataset file (next_of pool r) ≡ file_of dataset file pool) (dataset_of name pool) _ (λ refusal. refl) (λ place found. refl)
 other_after_named number tally pool (Create owner name) dataset file keeps other =
     let P = λ (r : Result (Reply × PlainPool) Refusal). file_of dataset file (next_of pool r) ≡ file_of dataset file pool in
-    behind_found P (dataset_of owner pool) _ (λ refusal. refl)
-    (λ place found. behind_test P (is_some (file_place name (dataset_at place pool))) Eexist _ refl
-    (λ missing. behind_test P (nat_lt (most_files pool) (length (dataset_at place pool).files + 1)) _ _ refl
+    after_found P (dataset_of owner pool) _ (λ refusal. refl)
+    (λ place found. after_test P (is_some (file_place name (dataset_at place pool))) Eexist _ refl
+    (λ missing. after_test P (nat_lt (most_files pool) (length (dataset_at place pool).files + 1)) _ _ refl
     (λ few. other_in_dataset place (with_new_file name) dataset file pool (λ d. refl)
     (λ d stands named. other_with_file name file d
     (λ same.
@@ -158,26 +158,26 @@ other_after_named number tally pool (Create owner name) dataset file keeps other
     let both : owner ∷ name ∷ [] ≡ dataset ∷ file ∷ [] = cc in
     other both)))))
 other_after_named number tally pool (Remove owner name) dataset file keeps other = cc
-other_after_named number tally pool (Write owner name offset bytes) dataset file keeps other = other_behind_write number tally pool owner name offset bytes dataset file other
-other_after_named number tally pool (Fill owner name offset len byte) dataset file keeps other = other_behind_write number tally pool owner name offset (replicate len byte) dataset file other
+other_after_named number tally pool (Write owner name offset bytes) dataset file keeps other = other_after_write number tally pool owner name offset bytes dataset file other
+other_after_named number tally pool (Fill owner name offset len byte) dataset file keeps other = other_after_write number tally pool owner name offset (replicate len byte) dataset file other
 other_after_named number tally pool (Truncate owner name size) dataset file keeps other =
     let P = λ (r : Result (Reply × PlainPool) Refusal). file_of dataset file (next_of pool r) ≡ file_of dataset file pool in
-    behind_found P (path_of owner name pool) _ (λ refusal. refl)
-    (λ path found. behind_found P (refuse_end size pool) _ (λ refusal. refl)
-    (λ _ short. behind_found P (refuse_charge (blocks_cut tally size path pool) tally pool) _ (λ refusal. refl)
+    after_found P (path_of owner name pool) _ (λ refusal. refl)
+    (λ path found. after_found P (refuse_end size pool) _ (λ refusal. refl)
+    (λ _ short. after_found P (refuse_charge (blocks_trimmed tally size path pool) tally pool) _ (λ refusal. refl)
     (λ _ free. other_in_file owner name path (truncated number size) dataset file pool (name_of_truncated number size) found other)))
 other_after_named number tally pool (Read owner name offset len) dataset file keeps other =
     let P = λ (r : Result (Reply × PlainPool) Refusal). file_of dataset file (next_of pool r) ≡ file_of dataset file pool in
-    behind_found P (path_of owner name pool) _ (λ refusal. refl) (λ path found. behind_test P (nat_lt most_read len) _ _ refl (λ short. refl))
+    after_found P (path_of owner name pool) _ (λ refusal. refl) (λ path found. after_test P (nat_lt most_read len) _ _ refl (λ short. refl))
 other_after_named number tally pool (Stat owner name) dataset file keeps other =
-    behind_found (λ (r : Result (Reply × PlainPool) Refusal). file_of dataset file (next_of pool r) ≡ file_of dataset file pool) (path_of owner name pool) _ (λ refusal. refl) (λ path found. refl)
+    after_found (λ (r : Result (Reply × PlainPool) Refusal). file_of dataset file (next_of pool r) ≡ file_of dataset file pool) (path_of owner name pool) _ (λ refusal. refl) (λ path found. refl)
 other_after_named number tally pool Commit dataset file keeps other = refl
 
 pub other_files_stay : (number : ℕ) (tally : Tally) (pool : PlainPool) (command : Command) (dataset file : List ℕ) → is_removal command ≡ false → names_of command ≢ dataset ∷ file ∷ []
     → file_of dataset file (next_of pool (answer number tally pool command)) ≡ file_of dataset file pool
 unfolding answer
 other_files_stay number tally pool command dataset file keeps other =
-    behind_found (λ r. file_of dataset file (next_of pool r) ≡ file_of dataset file pool) (refuse_long command) _ (λ refusal. refl) (λ _ short. other_after_named number tally pool command dataset file keeps other)
+    after_found (λ r. file_of dataset file (next_of pool r) ≡ file_of dataset file pool) (refuse_long command) _ (λ refusal. refl) (λ _ short. other_after_named number tally pool command dataset file keeps other)
 
 -- a change of a dataset that keeps its name moves none
 dataset_moved : (place : ℕ) (change : PlainDataset → PlainDataset) (dataset : List ℕ) (pool : PlainPool) → ((d : PlainDataset) → (change d).name ≡ d.name) → dataset_of dataset (in_dataset place change pool) ≡ dataset_of dataset pool
@@ -229,14 +229,14 @@ refused_answer refusal reply next e = cc
 one_answer : (a b : Reply) (p q : PlainPool) → answered a p ≡ answered b q → p ≡ q
 one_answer a b p q same = ap (next_of p) same
 
--- the pool behind a write that isn't refused
-behind_write : (number : ℕ) (dataset file : List ℕ) (offset : ℕ) (bytes : List ℕ) (tally : Tally) (pool next : PlainPool) (reply : Reply) (path : Path) → path_of dataset file pool ≡ Ok path → 0 < length bytes
+-- the pool after a write that isn't refused
+after_write : (number : ℕ) (dataset file : List ℕ) (offset : ℕ) (bytes : List ℕ) (tally : Tally) (pool next : PlainPool) (reply : Reply) (path : Path) → path_of dataset file pool ≡ Ok path → 0 < length bytes
     → write number dataset file offset bytes tally pool ≡ Ok (reply, next) → next ≡ in_file path (written number offset bytes) pool
 unfolding write put put_some
-behind_write number dataset file offset bytes tally pool next reply path found some done =
+after_write number dataset file offset bytes tally pool next reply path found some done =
     let Q = λ (r : Result (Reply × PlainPool) Refusal). r ≡ answered reply next → next ≡ in_file path (written number offset bytes) pool in
-    behind_found Q (room_in_file offset (length bytes) path pool) _ (λ refusal e. refused_answer refusal reply next e)
-    (λ _ room. behind_found Q (refuse_charge (blocks_touched tally offset (length bytes) path pool) tally pool) _ (λ refusal e. refused_answer refusal reply next e)
+    after_found Q (room_in_file offset (length bytes) path pool) _ (λ refusal e. refused_answer refusal reply next e)
+    (λ _ room. after_found Q (refuse_charge (blocks_touched tally offset (length bytes) path pool) tally pool) _ (λ refusal e. refused_answer refusal reply next e)
     (λ _ free e. sym (one_answer _ reply _ next e)))
     (rw (found, not_zero (length bytes) some) at done)
 
@@ -247,7 +247,7 @@ unfolding file_of
 write_changes_its_file number dataset file offset bytes tally pool next reply path found some done =
     let change = written number offset bytes in
     let still : path_of dataset file (in_file path change pool) ≡ Ok path = path_kept path change dataset file pool (name_of_written number offset bytes) ∙ found in
-    ap (λ (after : PlainPool). option_map (λ (p : Path). file_at p after) (result_ok (path_of dataset file after))) (behind_write number dataset file offset bytes tally pool next reply path found some done)
+    ap (λ (after : PlainPool). option_map (λ (p : Path). file_at p after) (result_ok (path_of dataset file after))) (after_write number dataset file offset bytes tally pool next reply path found some done)
     ∙ rw (still, found) (ap some_of (changed_at_path dataset file path change pool found))
 
 -- the file that a command made
@@ -268,8 +268,8 @@ pub create_makes_a_file : (dataset file : List ℕ) (pool next : PlainPool) (pla
 unfolding create
 create_makes_a_file dataset file pool next place reply found created =
     let Q = λ (r : Result (Reply × PlainPool) Refusal). r ≡ answered reply next → file_of dataset file next ≡ Some (new_file (dataset_at place pool).next_file file) in
-    behind_test Q (is_some (file_place file (dataset_at place pool))) Eexist _ (λ e. refused_answer _ reply next e)
-    (λ missing. behind_test Q (nat_lt (most_files pool) (length (dataset_at place pool).files + 1)) _ _ (λ e. refused_answer _ reply next e)
+    after_test Q (is_some (file_place file (dataset_at place pool))) Eexist _ (λ e. refused_answer _ reply next e)
+    (λ missing. after_test Q (nat_lt (most_files pool) (length (dataset_at place pool).files + 1)) _ _ (λ e. refused_answer _ reply next e)
     (λ few is.
     subst (λ (p : PlainPool). file_of dataset file p ≡ Some (new_file (dataset_at place pool).next_file file)) (one_answer _ reply _ next is) (new_file_found dataset file pool place found (is_none (file_place file (dataset_at place pool)) missing))))
     (rw found at created)
@@ -279,7 +279,7 @@ read_at_path : (dataset file : List ℕ) (offset len : ℕ) (pool : PlainPool) (
 unfolding read
 read_at_path dataset file offset len pool path found short = rw (found, short) refl
 
--- a read of the range that was written, behind a write that isn't refused, gives the bytes
+-- a read of the range that was written, after a write that isn't refused, gives the bytes
 pub read_after_write : (number : ℕ) (dataset file : List ℕ) (offset : ℕ) (bytes : List ℕ) (tally : Tally) (pool next : PlainPool) (reply : Reply) (path : Path) → IsPlain pool → path_of dataset file pool ≡ Ok path
     → 0 < length bytes → nat_lt most_read (length bytes) ≡ false → write number dataset file offset bytes tally pool ≡ Ok (reply, next) → read dataset file offset (length bytes) next ≡ Ok (Data bytes, next)
 read_after_write number dataset file offset bytes tally pool next reply path plain found some short done =
@@ -288,9 +288,9 @@ read_after_write number dataset file offset bytes tally pool next reply path pla
     let still : path_of dataset file after ≡ Ok path = path_kept path change dataset file pool (name_of_written number offset bytes) ∙ found in
     let is : bytes_from offset (length bytes) (file_at path after) ≡ bytes = ap (bytes_from offset (length bytes)) (changed_at_path dataset file path change pool found) ∙ read_of_written number offset bytes (file_at path pool) (plain_file_at pool path plain) in
     let given : read dataset file offset (length bytes) after ≡ answered (Data bytes) after = read_at_path dataset file offset (length bytes) after path still short ∙ ap (λ (bs : List ℕ). answered (Data bs) after) is in
-    subst (λ (p : PlainPool). read dataset file offset (length bytes) p ≡ answered (Data bytes) p) (sym (behind_write number dataset file offset bytes tally pool next reply path found some done)) given
+    subst (λ (p : PlainPool). read dataset file offset (length bytes) p ≡ answered (Data bytes) p) (sym (after_write number dataset file offset bytes tally pool next reply path found some done)) given
 
--- the same behind a fill
+-- the same after a fill
 pub read_after_fill : (number : ℕ) (dataset file : List ℕ) (offset len byte : ℕ) (tally : Tally) (pool next : PlainPool) (reply : Reply) (path : Path) → IsPlain pool → path_of dataset file pool ≡ Ok path
     → 0 < length (replicate len byte) → nat_lt most_read (length (replicate len byte)) ≡ false → fill number dataset file offset len byte tally pool ≡ Ok (reply, next)
     → read dataset file offset (length (replicate len byte)) next ≡ Ok (Data (replicate len byte), next)

@@ -8,10 +8,10 @@ use Rattle.zc_plain.specs.declared.plain_pool.PlainBlock.{PlainBlock}
 use Rattle.zc_plain.specs.declared.plain_pool.PlainBlock.TheVariants.{Hole}
 use Rattle.zc_plain.specs.declared.plain_pool.PlainFile.{PlainFile}
 use Rattle.zc_plain.specs.PlainPool.{blocks_of_size, block_at}
-use Rattle.zc_plain.specs.Truncated.{is_cut, cut_block, truncated_block, truncated}
+use Rattle.zc_plain.specs.Truncated.{is_trimmed, trimmed_block, truncated_block, truncated}
 use Rattle.zc_plain.specs.Putting.{grown, resized}
 use Rattle.zc_plain.proofs.Together.{grown_block, length_grown}
-use Rattle.zc_plain.proofs.TruncatedLaws.{cut_lies, made_where_cut, kept_where_uncut}
+use Rattle.zc_plain.proofs.TruncatedLaws.{trimmed_lies, made_where_trimmed, kept_where_uncut}
 
 -- there are so many blocks
 pub length_resized : (count : ℕ) (blocks : List PlainBlock) → length (resized count blocks) ≡ count
@@ -23,23 +23,23 @@ resized_block : (count : ℕ) (blocks : List PlainBlock) (k : ℕ) → k < count
 unfolding resized
 resized_block count blocks k within = get_or-take count (grown count blocks) k Hole within ∙ grown_block count blocks k
 
--- a file is cut in the block of its last byte alone
-cut_there_alone : (old size : ℕ) (blocks : List PlainBlock) (k : ℕ) → k ≢ size / 4096 → is_cut old size blocks k ≡ false
-cut_there_alone old size blocks k apart =
+-- a file is trimmed in the block of its last byte alone
+trimmed_there_alone : (old size : ℕ) (blocks : List PlainBlock) (k : ℕ) → k ≢ size / 4096 → is_trimmed old size blocks k ≡ false
+trimmed_there_alone old size blocks k apart =
     ⊎_elim
-    (λ (is : is_cut old size blocks k ≡ true).
-    let lies = cut_lies old size blocks k is in
+    (λ (is : is_trimmed old size blocks k ≡ true).
+    let lies = trimmed_lies old size blocks k is in
     let same : k ≡ size / 4096 = omega (arith, lies.1, lies.2) in
     absurd (apart same))
-    (λ (not : is_cut old size blocks k ≡ false). not)
-    (cases_Bool (is_cut old size blocks k))
+    (λ (not : is_trimmed old size blocks k ≡ false). not)
+    (cases_Bool (is_trimmed old size blocks k))
 
--- a block that is cut is one of those that stay
-pub cut_within : (old size : ℕ) (blocks : List PlainBlock) → is_cut old size blocks (size / 4096) ≡ true → size / 4096 < blocks_of_size size
-cut_within old size blocks is = let lies = cut_lies old size blocks (size / 4096) is in omega (arith, lies.1)
+-- a block that is trimmed is one of those that stay
+pub trimmed_within : (old size : ℕ) (blocks : List PlainBlock) → is_trimmed old size blocks (size / 4096) ≡ true → size / 4096 < blocks_of_size size
+trimmed_within old size blocks is = let lies = trimmed_lies old size blocks (size / 4096) is in omega (arith, lies.1)
 
--- a file that is cut in no block
-pub truncated_uncut : (number size : ℕ) (file : PlainFile) → is_cut file.size size file.blocks (size / 4096) ≡ false
+-- a file that is trimmed in no block
+pub truncated_uncut : (number size : ℕ) (file : PlainFile) → is_trimmed file.size size file.blocks (size / 4096) ≡ false
     → record file { size = size; blocks = resized (blocks_of_size size) file.blocks } ≡ truncated number size file
 unfolding truncated
 truncated_uncut number size file uncut =
@@ -47,64 +47,64 @@ truncated_uncut number size file uncut =
     (each_from_items (truncated_block number file.size size file.blocks) (resized (blocks_of_size size) file.blocks) (blocks_of_size size) Hole (length_resized (blocks_of_size size) file.blocks)
     (λ k within. resized_block (blocks_of_size size) file.blocks k within ∙ sym (kept_where_uncut number file.size size file.blocks k (nowhere k))))
   where
-    nowhere : (k : ℕ) → is_cut file.size size file.blocks k ≡ false
+    nowhere : (k : ℕ) → is_trimmed file.size size file.blocks k ≡ false
     nowhere k =
         ⊎_elim
-        (λ (same : k ≡ size / 4096). subst (λ (n : ℕ). is_cut file.size size file.blocks n ≡ false) (sym same) uncut)
-        (λ (apart : k ≢ size / 4096). cut_there_alone file.size size file.blocks k apart)
+        (λ (same : k ≡ size / 4096). subst (λ (n : ℕ). is_trimmed file.size size file.blocks n ≡ false) (sym same) uncut)
+        (λ (apart : k ≢ size / 4096). trimmed_there_alone file.size size file.blocks k apart)
         (cases_eq k (size / 4096))
 
--- a file that is cut in a block
-pub truncated_cut : (number size : ℕ) (file : PlainFile) → is_cut file.size size file.blocks (size / 4096) ≡ true
-    → record file { size = size; blocks = set (resized (blocks_of_size size) file.blocks) (size / 4096) (cut_block number size file.blocks (size / 4096)) } ≡ truncated number size file
+-- a file that is trimmed in a block
+pub truncated_trimmed : (number size : ℕ) (file : PlainFile) → is_trimmed file.size size file.blocks (size / 4096) ≡ true
+    → record file { size = size; blocks = set (resized (blocks_of_size size) file.blocks) (size / 4096) (trimmed_block number size file.blocks (size / 4096)) } ≡ truncated number size file
 unfolding truncated
-truncated_cut number size file is =
+truncated_trimmed number size file is =
     let count = blocks_of_size size in
     let at = size / 4096 in
     let all = resized count file.blocks in
-    let block = cut_block number size file.blocks at in
-    let within : at < length all = rw length_resized (cut_within file.size size file.blocks is) in
+    let block = trimmed_block number size file.blocks at in
+    let within : at < length all = rw length_resized (trimmed_within file.size size file.blocks is) in
     ap (λ (blocks : List PlainBlock). record file { size = size; blocks = blocks })
     (each_from_items (truncated_block number file.size size file.blocks) (set all at block) count Hole (length-set all at block ∙ length_resized count file.blocks)
     (λ k inside.
     ⊎_elim
     (λ (same : k ≡ at).
     subst (λ (n : ℕ). get_or (set all at block) n Hole ≡ truncated_block number file.size size file.blocks n) (sym same)
-    (get_or-set_same all at block Hole within ∙ sym (made_where_cut number file.size size file.blocks at is)))
+    (get_or-set_same all at block Hole within ∙ sym (made_where_trimmed number file.size size file.blocks at is)))
     (λ (apart : k ≢ at).
     get_or-set_other all at k block Hole apart ∙ resized_block count file.blocks k inside
-    ∙ sym (kept_where_uncut number file.size size file.blocks k (cut_there_alone file.size size file.blocks k apart)))
+    ∙ sym (kept_where_uncut number file.size size file.blocks k (trimmed_there_alone file.size size file.blocks k apart)))
     (cases_eq k at)))
 
--- the block in which a file is cut, made anew, where there is one
-abbrev pub cut_of : ℕ → ℕ → PlainFile → Option PlainBlock
-cut_of number size file = if is_cut file.size size file.blocks (size / 4096) then Some (cut_block number size file.blocks (size / 4096)) else None
+-- the block in which a file is trimmed, made anew, where there is one
+abbrev pub trimmed_of : ℕ → ℕ → PlainFile → Option PlainBlock
+trimmed_of number size file = if is_trimmed file.size size file.blocks (size / 4096) then Some (trimmed_block number size file.blocks (size / 4096)) else None
 
 abbrev some_block : PlainBlock → Option PlainBlock
 some_block block = Some block
 
 -- where there is one, it is one of those that stay
-pub cut_fits : (number size count : ℕ) (file : PlainFile) (blocks : List PlainBlock) (cut : Option PlainBlock) (block : PlainBlock) → count ≡ blocks_of_size size → blocks ≡ resized count file.blocks
-    → cut ≡ cut_of number size file → cut ≡ Some block → size / 4096 < length blocks
-cut_fits number size count file blocks cut block many put is there =
+pub trimmed_fits : (number size count : ℕ) (file : PlainFile) (blocks : List PlainBlock) (trimmed : Option PlainBlock) (block : PlainBlock) → count ≡ blocks_of_size size → blocks ≡ resized count file.blocks
+    → trimmed ≡ trimmed_of number size file → trimmed ≡ Some block → size / 4096 < length blocks
+trimmed_fits number size count file blocks trimmed block many put is there =
     ⊎_elim
-    (λ (cuts : is_cut file.size size file.blocks (size / 4096) ≡ true). rw (put, length_resized, many) (cut_within file.size size file.blocks cuts))
-    (λ (leaves : is_cut file.size size file.blocks (size / 4096) ≡ false). nothing block (sym there ∙ is ∙ rw leaves refl))
-    (cases_Bool (is_cut file.size size file.blocks (size / 4096)))
+    (λ (trims : is_trimmed file.size size file.blocks (size / 4096) ≡ true). rw (put, length_resized, many) (trimmed_within file.size size file.blocks trims))
+    (λ (leaves : is_trimmed file.size size file.blocks (size / 4096) ≡ false). nothing block (sym there ∙ is ∙ rw leaves refl))
+    (cases_Bool (is_trimmed file.size size file.blocks (size / 4096)))
   where
     nothing : {A : Type 0} (block : PlainBlock) → some_block block ≡ None → A
     nothing block e = cc
 
 -- the file with that block put into its place
-pub truncated_with : (number size count : ℕ) (file : PlainFile) (cut : Option PlainBlock) (block : PlainBlock) → count ≡ blocks_of_size size → cut ≡ cut_of number size file → cut ≡ Some block
+pub truncated_with : (number size count : ℕ) (file : PlainFile) (trimmed : Option PlainBlock) (block : PlainBlock) → count ≡ blocks_of_size size → trimmed ≡ trimmed_of number size file → trimmed ≡ Some block
     → record file { size = size; blocks = set (resized count file.blocks) (size / 4096) block } ≡ truncated number size file
-truncated_with number size count file cut block many is there =
+truncated_with number size count file trimmed block many is there =
     ⊎_elim
-    (λ (cuts : is_cut file.size size file.blocks (size / 4096) ≡ true).
-    let same : block ≡ cut_block number size file.blocks (size / 4096) = one block (cut_block number size file.blocks (size / 4096)) (sym there ∙ is ∙ rw cuts refl) in
-    rw (many, same) (truncated_cut number size file cuts))
-    (λ (leaves : is_cut file.size size file.blocks (size / 4096) ≡ false). nothing block (sym there ∙ is ∙ rw leaves refl))
-    (cases_Bool (is_cut file.size size file.blocks (size / 4096)))
+    (λ (trims : is_trimmed file.size size file.blocks (size / 4096) ≡ true).
+    let same : block ≡ trimmed_block number size file.blocks (size / 4096) = one block (trimmed_block number size file.blocks (size / 4096)) (sym there ∙ is ∙ rw trims refl) in
+    rw (many, same) (truncated_trimmed number size file trims))
+    (λ (leaves : is_trimmed file.size size file.blocks (size / 4096) ≡ false). nothing block (sym there ∙ is ∙ rw leaves refl))
+    (cases_Bool (is_trimmed file.size size file.blocks (size / 4096)))
   where
     nothing : {A : Type 0} (block : PlainBlock) → some_block block ≡ None → A
     nothing block e = cc
@@ -113,13 +113,13 @@ truncated_with number size count file cut block many is there =
     one a b e = cc
 
 -- the file without one
-pub truncated_without : (number size count : ℕ) (file : PlainFile) (cut : Option PlainBlock) → count ≡ blocks_of_size size → cut ≡ cut_of number size file → cut ≡ None
+pub truncated_without : (number size count : ℕ) (file : PlainFile) (trimmed : Option PlainBlock) → count ≡ blocks_of_size size → trimmed ≡ trimmed_of number size file → trimmed ≡ None
     → record file { size = size; blocks = resized count file.blocks } ≡ truncated number size file
-truncated_without number size count file cut many is there =
+truncated_without number size count file trimmed many is there =
     ⊎_elim
-    (λ (cuts : is_cut file.size size file.blocks (size / 4096) ≡ true). nothing (cut_block number size file.blocks (size / 4096)) (sym (sym there ∙ is ∙ rw cuts refl)))
-    (λ (leaves : is_cut file.size size file.blocks (size / 4096) ≡ false). rw many (truncated_uncut number size file leaves))
-    (cases_Bool (is_cut file.size size file.blocks (size / 4096)))
+    (λ (trims : is_trimmed file.size size file.blocks (size / 4096) ≡ true). nothing (trimmed_block number size file.blocks (size / 4096)) (sym (sym there ∙ is ∙ rw trims refl)))
+    (λ (leaves : is_trimmed file.size size file.blocks (size / 4096) ≡ false). rw many (truncated_uncut number size file leaves))
+    (cases_Bool (is_trimmed file.size size file.blocks (size / 4096)))
   where
     nothing : {A : Type 0} (block : PlainBlock) → some_block block ≡ None → A
     nothing block e = cc

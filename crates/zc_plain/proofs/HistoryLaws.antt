@@ -17,13 +17,13 @@ use Rattle.zc_plain.specs.declared.tally.Tally.{Tally}
 use Rattle.zc_plain.specs.Written.{written}
 use Rattle.zc_plain.specs.Truncated.{truncated}
 use Rattle.zc_plain.specs.IsPlain.{StandsAt, AreNextUpTo, IsState, most_number}
-use Rattle.zc_plain.specs.Answer.{refuse_long, refuse_end, refuse_charge, blocks_cut, most_datasets, most_files, most_read, dataset_place, file_place, dataset_of, path_of, mkds, rmds, mount, create, remove, write, fill, truncate, read, stat, blocks_of_command, named_answer, answer}
+use Rattle.zc_plain.specs.Answer.{refuse_long, refuse_end, refuse_charge, blocks_trimmed, most_datasets, most_files, most_read, dataset_place, file_place, dataset_of, path_of, mkds, rmds, mount, create, remove, write, fill, truncate, read, stat, blocks_of_command, named_answer, answer}
 use Rattle.zc_command.specs.Names.{Each}
 use Rattle.zc_plain.specs.Charge.{with_each, stamps_of, held_by}
-use Rattle.zc_plain.specs.History.{PlainState, MeetsConditions, is_waiting, reply_of, step, pool_behind, tally_behind, next_number, begun, state_after}
+use Rattle.zc_plain.specs.History.{PlainState, MeetsConditions, is_waiting, reply_of, step, pool_after_command, tally_after, next_number, begun, state_after}
 use Rattle.zc_plain.proofs.NumberedLaws.{no_item, stood_or_new, stood_or_changed, stood_before_removal, skipped}
 use Rattle.zc_plain.proofs.ChargeLaws.{few_after, few_after_finish}
-use Rattle.zc_plain.proofs.PlainLaws.{behind_test, behind_found, behind_put, next_of, plain_new_pool, plain_after}
+use Rattle.zc_plain.proofs.PlainLaws.{after_test, after_found, after_put, next_of, plain_new_pool, plain_after}
 
 -- the next numbers may be said to be at most a greater number
 more_up_to : (most more : ℕ) (pool : PlainPool) → most ≤ more → AreNextUpTo most pool → AreNextUpTo more pool
@@ -67,60 +67,60 @@ unfolding mkds rmds mount create remove write fill truncate read stat
 up_to_after_named most number tally pool (Mkds dataset) upto =
     let P = λ (r : Result _ Refusal). AreNextUpTo (most + 1) (next_of pool r) in
     let same = more_up_to most (most + 1) pool (omega arith) upto in
-    behind_test P (is_some (dataset_place dataset pool)) Eexist _ same
-    (λ missing. behind_test P (nat_lt most_datasets (length pool.datasets + 1)) _ _ same
+    after_test P (is_some (dataset_place dataset pool)) Eexist _ same
+    (λ missing. after_test P (nat_lt most_datasets (length pool.datasets + 1)) _ _ same
     (λ few. up_to_with_dataset most dataset pool upto))
 up_to_after_named most number tally pool (Create dataset file) upto =
     let P = λ (r : Result _ Refusal). AreNextUpTo (most + 1) (next_of pool r) in
     let same = more_up_to most (most + 1) pool (omega arith) upto in
-    behind_found P (dataset_of dataset pool) _ (λ refusal. same)
-    (λ place found. behind_test P (is_some (file_place file (dataset_at place pool))) Eexist _ same
-    (λ missing. behind_test P (nat_lt (most_files pool) (length (dataset_at place pool).files + 1)) _ _ same
+    after_found P (dataset_of dataset pool) _ (λ refusal. same)
+    (λ place found. after_test P (is_some (file_place file (dataset_at place pool))) Eexist _ same
+    (λ missing. after_test P (nat_lt (most_files pool) (length (dataset_at place pool).files + 1)) _ _ same
     (λ few. up_to_in_dataset most place (with_new_file file) pool (λ d. omega arith) upto)))
 up_to_after_named most number tally pool (Rmds dataset) upto =
     let P = λ (r : Result _ Refusal). AreNextUpTo (most + 1) (next_of pool r) in
     let more = more_up_to most (most + 1) pool (omega arith) upto in
-    behind_found P (dataset_of dataset pool) _ (λ refusal. more) (λ place found. up_to_without_dataset (most + 1) place pool more)
+    after_found P (dataset_of dataset pool) _ (λ refusal. more) (λ place found. up_to_without_dataset (most + 1) place pool more)
 up_to_after_named most number tally pool (Mount dataset) upto =
     let P = λ (r : Result _ Refusal). AreNextUpTo (most + 1) (next_of pool r) in
     let same = more_up_to most (most + 1) pool (omega arith) upto in
-    behind_found P (dataset_of dataset pool) _ (λ refusal. same) (λ place found. same)
+    after_found P (dataset_of dataset pool) _ (λ refusal. same) (λ place found. same)
 up_to_after_named most number tally pool (Remove dataset file) upto =
     let P = λ (r : Result _ Refusal). AreNextUpTo (most + 1) (next_of pool r) in
     let same = more_up_to most (most + 1) pool (omega arith) upto in
-    behind_found P (path_of dataset file pool) _ (λ refusal. same) (λ path found. up_to_in_dataset most path.dataset (without_file path.file) pool (λ d. omega arith) upto)
+    after_found P (path_of dataset file pool) _ (λ refusal. same) (λ path found. up_to_in_dataset most path.dataset (without_file path.file) pool (λ d. omega arith) upto)
 up_to_after_named most number tally pool (Write dataset file offset bytes) upto =
     let P = λ (r : Result _ Refusal). AreNextUpTo (most + 1) (next_of pool r) in
     let same = more_up_to most (most + 1) pool (omega arith) upto in
-    behind_found P (path_of dataset file pool) _ (λ refusal. same)
-    (λ path found. behind_put P number path offset bytes tally pool (λ refusal. same) same (up_to_in_dataset most path.dataset (in_files path.file (written number offset bytes)) pool (λ d. omega arith) upto))
+    after_found P (path_of dataset file pool) _ (λ refusal. same)
+    (λ path found. after_put P number path offset bytes tally pool (λ refusal. same) same (up_to_in_dataset most path.dataset (in_files path.file (written number offset bytes)) pool (λ d. omega arith) upto))
 up_to_after_named most number tally pool (Fill dataset file offset len byte) upto =
     let P = λ (r : Result _ Refusal). AreNextUpTo (most + 1) (next_of pool r) in
     let same = more_up_to most (most + 1) pool (omega arith) upto in
     let bytes = replicate len byte in
-    behind_found P (path_of dataset file pool) _ (λ refusal. same)
-    (λ path found. behind_put P number path offset bytes tally pool (λ refusal. same) same (up_to_in_dataset most path.dataset (in_files path.file (written number offset bytes)) pool (λ d. omega arith) upto))
+    after_found P (path_of dataset file pool) _ (λ refusal. same)
+    (λ path found. after_put P number path offset bytes tally pool (λ refusal. same) same (up_to_in_dataset most path.dataset (in_files path.file (written number offset bytes)) pool (λ d. omega arith) upto))
 up_to_after_named most number tally pool (Truncate dataset file size) upto =
     let P = λ (r : Result _ Refusal). AreNextUpTo (most + 1) (next_of pool r) in
     let same = more_up_to most (most + 1) pool (omega arith) upto in
-    behind_found P (path_of dataset file pool) _ (λ refusal. same)
-    (λ path found. behind_found P (refuse_end size pool) _ (λ refusal. same)
-    (λ _ short. behind_found P (refuse_charge (blocks_cut tally size path pool) tally pool) _ (λ refusal. same)
+    after_found P (path_of dataset file pool) _ (λ refusal. same)
+    (λ path found. after_found P (refuse_end size pool) _ (λ refusal. same)
+    (λ _ short. after_found P (refuse_charge (blocks_trimmed tally size path pool) tally pool) _ (λ refusal. same)
     (λ _ free. up_to_in_dataset most path.dataset (in_files path.file (truncated number size)) pool (λ d. omega arith) upto)))
 up_to_after_named most number tally pool (Read dataset file offset len) upto =
     let P = λ (r : Result _ Refusal). AreNextUpTo (most + 1) (next_of pool r) in
     let same = more_up_to most (most + 1) pool (omega arith) upto in
-    behind_found P (path_of dataset file pool) _ (λ refusal. same) (λ path found. behind_test P (nat_lt most_read len) _ _ same (λ short. same))
+    after_found P (path_of dataset file pool) _ (λ refusal. same) (λ path found. after_test P (nat_lt most_read len) _ _ same (λ short. same))
 up_to_after_named most number tally pool (Stat dataset file) upto =
     let P = λ (r : Result _ Refusal). AreNextUpTo (most + 1) (next_of pool r) in
     let same = more_up_to most (most + 1) pool (omega arith) upto in
-    behind_found P (path_of dataset file pool) _ (λ refusal. same) (λ path found. same)
+    after_found P (path_of dataset file pool) _ (λ refusal. same) (λ path found. same)
 up_to_after_named most number tally pool Commit upto = more_up_to most (most + 1) pool (omega arith) upto
 
 up_to_after : (most number : ℕ) (tally : Tally) (pool : PlainPool) (command : Command) → AreNextUpTo most pool → AreNextUpTo (most + 1) (next_of pool (answer number tally pool command))
 unfolding answer
 up_to_after most number tally pool command upto =
-    behind_found (λ r. AreNextUpTo (most + 1) (next_of pool r)) (refuse_long command) _ (λ refusal. more_up_to most (most + 1) pool (omega arith) upto)
+    after_found (λ r. AreNextUpTo (most + 1) (next_of pool r)) (refuse_long command) _ (λ refusal. more_up_to most (most + 1) pool (omega arith) upto)
     (λ _ short. up_to_after_named most number tally pool command upto)
 
 -- each entry leads from a state to a state
@@ -180,7 +180,7 @@ unfolding step reply_of
 refusal_changes_nothing state session command refusal at_once refused = (rw (at_once, refused) refl, rw refused refl)
 
 -- a command that waits changes no plain pool
-pub waiting_changes_nothing : (number : ℕ) (tally : Tally) (pool : PlainPool) (command : Command) → is_waiting command ≡ true → pool_behind number tally pool command ≡ pool
+pub waiting_changes_nothing : (number : ℕ) (tally : Tally) (pool : PlainPool) (command : Command) → is_waiting command ≡ true → pool_after_command number tally pool command ≡ pool
 unfolding answer
 waiting_changes_nothing number tally pool (Mkds dataset) waits = cc
 waiting_changes_nothing number tally pool (Rmds dataset) waits = cc
@@ -195,7 +195,7 @@ waiting_changes_nothing number tally pool (Stat dataset file) waits = cc
 waiting_changes_nothing number tally pool Commit waits = refl
 
 -- and nothing that is counted
-pub waiting_counts_nothing : (number : ℕ) (tally : Tally) (pool : PlainPool) (command : Command) → is_waiting command ≡ true → tally_behind number tally pool command ≡ tally
+pub waiting_counts_nothing : (number : ℕ) (tally : Tally) (pool : PlainPool) (command : Command) → is_waiting command ≡ true → tally_after number tally pool command ≡ tally
 unfolding answer blocks_of_command with_each
 waiting_counts_nothing number tally pool (Mkds dataset) waits = cc
 waiting_counts_nothing number tally pool (Rmds dataset) waits = cc

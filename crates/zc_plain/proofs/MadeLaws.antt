@@ -1,4 +1,4 @@
--- The charge is what it is called: what the last finished group holds, and the blocks that were made behind the latest seal of those finished, each once.
+-- The charge is what it is called: what the last finished group holds, and the blocks that were made after the latest seal of those finished, each once.
 use Rattle.std.proofs.Common.{◌≡◌, ℕ, zero, suc, ◌+◌, ◌/◌, ◌≤◌, ◌==◌, ◌&&◌, ◌||◌, max, nat_le, Bool, true, false, cond, List, [], ◌∷◌, ◌++◌, map, length, fold, Option, Some, None, Result, Ok, Err, refl, sym, ap, ◌∙◌, ⊎_elim, arith}
 use Rattle.std.specs.Prelude.{filter}
 use Rattle.std.specs.List.{list_any, range_with_len}
@@ -18,12 +18,12 @@ use Rattle.zc_plain.specs.declared.plain_pool.PlainPool.{PlainPool}
 use Rattle.zc_plain.specs.declared.tally.MadeBlock.{MadeBlock}
 use Rattle.zc_plain.specs.declared.tally.Tally.{Tally}
 use Rattle.zc_plain.specs.PlainPool.{file_at}
-use Rattle.zc_plain.specs.Truncated.{is_cut}
-use Rattle.zc_plain.specs.Charge.{is_block, with_one, with_each, block_made, blocks_made, with_blocks, with_seal, with_finish, seals_behind, seals_up_to, is_behind, held_by, charge_of}
-use Rattle.zc_plain.specs.Answer.{path_of, blocks_touched, blocks_cut, blocks_on, blocks_of_command, counted, answer}
+use Rattle.zc_plain.specs.Truncated.{is_trimmed}
+use Rattle.zc_plain.specs.Charge.{is_block, with_one, with_each, block_made, blocks_made, with_blocks, with_seal, with_finish, seals_after, seals_up_to, is_after, held_by, charge_of}
+use Rattle.zc_plain.specs.Answer.{path_of, blocks_touched, blocks_trimmed, blocks_on, blocks_of_command, counted, answer}
 use Rattle.zc_plain.specs.IsPlain.{StandsAt}
 use Rattle.zc_plain.proofs.NumberedLaws.{no_item, one_item, stood_or_new}
-use Rattle.zc_plain.specs.History.{PlainState, next_number, step, begun, state_after, unless_refused, blocks_of_entry, blocks_behind, seals_finished, held_finished, made_since}
+use Rattle.zc_plain.specs.History.{PlainState, next_number, step, begun, state_after, unless_refused, blocks_of_entry, blocks_after, seals_finished, held_finished, made_since}
 
 -- items that are added in two parts
 with_each_append : {X : Type 0} (same : X → X → Bool) (items more others : List X) → with_each same items (more ++ others) ≡ with_each same (with_each same items more) others
@@ -92,86 +92,86 @@ passing_with_each {X} same p alike items (x ∷ more) =
         (cases_Bool (list_any (same x) items))
 
 -- one block has one number of seals
-one_seals : (seals : ℕ) (a b : MadeBlock) → is_block a b ≡ true → is_behind seals b ≡ is_behind seals a
+one_seals : (seals : ℕ) (a b : MadeBlock) → is_block a b ≡ true → is_after seals b ≡ is_after seals a
 one_seals seals a b one =
     let first = (and_parts (a.seals == b.seals) ((a.dataset == b.dataset) && ((a.file == b.file) && (a.block == b.block))) one).0 in
     ap (λ (n : ℕ). nat_le seals n) (sym (eqb-true a.seals b.seals first))
 
--- behind both of two numbers of seals
-behind_both : (a b : ℕ) (blocks : List MadeBlock) → filter (is_behind a) (filter (is_behind b) blocks) ≡ filter (is_behind (max b a)) blocks
-behind_both a b [] = refl
-behind_both a b (x ∷ blocks) =
+-- after both of two numbers of seals
+after_both : (a b : ℕ) (blocks : List MadeBlock) → filter (is_after a) (filter (is_after b) blocks) ≡ filter (is_after (max b a)) blocks
+after_both a b [] = refl
+after_both a b (x ∷ blocks) =
     ⊎_elim
-    (λ (late : is_behind b x ≡ true).
+    (λ (late : is_after b x ≡ true).
     let late_is = leb-true b x.seals late in
     ⊎_elim
-    (λ (later : is_behind a x ≡ true).
-    let both : is_behind (max b a) x ≡ true = le-leb (max b a) x.seals (omega (arith, late_is, leb-true a x.seals later)) in
-    rw (late, later, both) (ap (λ xs. x ∷ xs) (behind_both a b blocks)))
-    (λ (early : is_behind a x ≡ false).
-    let both : is_behind (max b a) x ≡ false = lt-leb (max b a) x.seals (omega (arith, leb-false a x.seals early)) in
-    rw (late, early, both) (behind_both a b blocks))
-    (cases_Bool (is_behind a x)))
-    (λ (early : is_behind b x ≡ false).
-    let both : is_behind (max b a) x ≡ false = lt-leb (max b a) x.seals (omega (arith, leb-false b x.seals early)) in
-    rw (early, both) (behind_both a b blocks))
-    (cases_Bool (is_behind b x))
+    (λ (later : is_after a x ≡ true).
+    let both : is_after (max b a) x ≡ true = le-leb (max b a) x.seals (omega (arith, late_is, leb-true a x.seals later)) in
+    rw (late, later, both) (ap (λ xs. x ∷ xs) (after_both a b blocks)))
+    (λ (early : is_after a x ≡ false).
+    let both : is_after (max b a) x ≡ false = lt-leb (max b a) x.seals (omega (arith, leb-false a x.seals early)) in
+    rw (late, early, both) (after_both a b blocks))
+    (cases_Bool (is_after a x)))
+    (λ (early : is_after b x ≡ false).
+    let both : is_after (max b a) x ≡ false = lt-leb (max b a) x.seals (omega (arith, leb-false b x.seals early)) in
+    rw (early, both) (after_both a b blocks))
+    (cases_Bool (is_after b x))
 
--- all of the blocks were made behind so many seals
-abbrev AreBehind : ℕ → List MadeBlock → Type 0
-AreBehind seals blocks = filter (is_behind seals) blocks ≡ blocks
+-- all of the blocks were made after so many seals
+abbrev AreAfter : ℕ → List MadeBlock → Type 0
+AreAfter seals blocks = filter (is_after seals) blocks ≡ blocks
 
-behind_append : (seals : ℕ) (xs ys : List MadeBlock) → AreBehind seals xs → AreBehind seals ys → AreBehind seals (xs ++ ys)
-behind_append seals xs ys first second = filter_append (is_behind seals) xs ys ∙ ap (λ (zs : List MadeBlock). zs ++ filter (is_behind seals) ys) first ∙ ap (λ (zs : List MadeBlock). xs ++ zs) second
+later_append : (seals : ℕ) (xs ys : List MadeBlock) → AreAfter seals xs → AreAfter seals ys → AreAfter seals (xs ++ ys)
+later_append seals xs ys first second = filter_append (is_after seals) xs ys ∙ ap (λ (zs : List MadeBlock). zs ++ filter (is_after seals) ys) first ∙ ap (λ (zs : List MadeBlock). xs ++ zs) second
 
--- those of a file that are made now are behind all seals
-behind_made : (seals : ℕ) (tally : Tally) (dataset file first count : ℕ) → seals ≤ length tally.sealed → AreBehind seals (blocks_made tally dataset file first count)
+-- those of a file that are made now are after all seals
+after_made : (seals : ℕ) (tally : Tally) (dataset file first count : ℕ) → seals ≤ length tally.sealed → AreAfter seals (blocks_made tally dataset file first count)
 unfolding each
-behind_made seals tally dataset file first count few = filter_map_all (is_behind seals) (λ k. block_made tally dataset file (first + k)) (range_with_len 0 count) (λ k. le-leb seals (length tally.sealed) few)
+after_made seals tally dataset file first count few = filter_map_all (is_after seals) (λ k. block_made tally dataset file (first + k)) (range_with_len 0 count) (λ k. le-leb seals (length tally.sealed) few)
 
-behind_on : (seals : ℕ) (found : Result Path Refusal) (blocks : Path → List MadeBlock) → ((path : Path) → AreBehind seals (blocks path)) → AreBehind seals (blocks_on found blocks)
-behind_on seals (Ok path) blocks all = all path
-behind_on seals (Err refusal) blocks all = refl
+after_on : (seals : ℕ) (found : Result Path Refusal) (blocks : Path → List MadeBlock) → ((path : Path) → AreAfter seals (blocks path)) → AreAfter seals (blocks_on found blocks)
+after_on seals (Ok path) blocks all = all path
+after_on seals (Err refusal) blocks all = refl
 
-behind_chosen : (seals : ℕ) (test : Bool) (blocks : List MadeBlock) → AreBehind seals blocks → AreBehind seals (cond test blocks [])
-behind_chosen seals true blocks all = all
-behind_chosen seals false blocks all = refl
+after_chosen : (seals : ℕ) (test : Bool) (blocks : List MadeBlock) → AreAfter seals blocks → AreAfter seals (cond test blocks [])
+after_chosen seals true blocks all = all
+after_chosen seals false blocks all = refl
 
-behind_unless : (seals : ℕ) (test : Bool) (blocks : List MadeBlock) → AreBehind seals blocks → AreBehind seals (cond test [] blocks)
-behind_unless seals true blocks all = refl
-behind_unless seals false blocks all = all
+after_unless : (seals : ℕ) (test : Bool) (blocks : List MadeBlock) → AreAfter seals blocks → AreAfter seals (cond test [] blocks)
+after_unless seals true blocks all = refl
+after_unless seals false blocks all = all
 
 -- and so are all that a command makes
-behind_command : (seals : ℕ) (tally : Tally) (pool : PlainPool) (command : Command) → seals ≤ length tally.sealed → AreBehind seals (blocks_of_command tally pool command)
+after_command : (seals : ℕ) (tally : Tally) (pool : PlainPool) (command : Command) → seals ≤ length tally.sealed → AreAfter seals (blocks_of_command tally pool command)
 unfolding blocks_of_command
-behind_command seals tally pool (Mkds dataset) few = refl
-behind_command seals tally pool (Rmds dataset) few = refl
-behind_command seals tally pool (Mount dataset) few = refl
-behind_command seals tally pool (Create dataset file) few = refl
-behind_command seals tally pool (Remove dataset file) few = refl
-behind_command seals tally pool (Write dataset file offset bytes) few =
-    behind_unless seals (length bytes == 0) (blocks_on (path_of dataset file pool) (λ path. blocks_touched tally offset (length bytes) path pool))
-    (behind_on seals (path_of dataset file pool) (λ path. blocks_touched tally offset (length bytes) path pool) (λ path. behind_made seals tally _ _ _ _ few))
-behind_command seals tally pool (Fill dataset file offset len byte) few =
-    behind_unless seals (len == 0) (blocks_on (path_of dataset file pool) (λ path. blocks_touched tally offset len path pool))
-    (behind_on seals (path_of dataset file pool) (λ path. blocks_touched tally offset len path pool) (λ path. behind_made seals tally _ _ _ _ few))
-behind_command seals tally pool (Truncate dataset file size) few =
-    behind_on seals (path_of dataset file pool) (λ path. blocks_cut tally size path pool) (λ path. behind_chosen seals (is_cut (file_at path pool).size size (file_at path pool).blocks (size / 4096)) _ (behind_made seals tally _ _ _ _ few))
-behind_command seals tally pool (Read dataset file offset len) few = refl
-behind_command seals tally pool (Stat dataset file) few = refl
-behind_command seals tally pool Commit few = refl
+after_command seals tally pool (Mkds dataset) few = refl
+after_command seals tally pool (Rmds dataset) few = refl
+after_command seals tally pool (Mount dataset) few = refl
+after_command seals tally pool (Create dataset file) few = refl
+after_command seals tally pool (Remove dataset file) few = refl
+after_command seals tally pool (Write dataset file offset bytes) few =
+    after_unless seals (length bytes == 0) (blocks_on (path_of dataset file pool) (λ path. blocks_touched tally offset (length bytes) path pool))
+    (after_on seals (path_of dataset file pool) (λ path. blocks_touched tally offset (length bytes) path pool) (λ path. after_made seals tally _ _ _ _ few))
+after_command seals tally pool (Fill dataset file offset len byte) few =
+    after_unless seals (len == 0) (blocks_on (path_of dataset file pool) (λ path. blocks_touched tally offset len path pool))
+    (after_on seals (path_of dataset file pool) (λ path. blocks_touched tally offset len path pool) (λ path. after_made seals tally _ _ _ _ few))
+after_command seals tally pool (Truncate dataset file size) few =
+    after_on seals (path_of dataset file pool) (λ path. blocks_trimmed tally size path pool) (λ path. after_chosen seals (is_trimmed (file_at path pool).size size (file_at path pool).blocks (size / 4096)) _ (after_made seals tally _ _ _ _ few))
+after_command seals tally pool (Read dataset file offset len) few = refl
+after_command seals tally pool (Stat dataset file) few = refl
+after_command seals tally pool Commit few = refl
 
-behind_entry : (seals : ℕ) (state : PlainState) (one : Entry) → seals ≤ length state.tally.sealed → AreBehind seals (blocks_of_entry state one)
-behind_entry seals state (entry.Ask session command) few = either (answer (next_number state) state.tally state.pool command)
+after_entry : (seals : ℕ) (state : PlainState) (one : Entry) → seals ≤ length state.tally.sealed → AreAfter seals (blocks_of_entry state one)
+after_entry seals state (entry.Ask session command) few = either (answer (next_number state) state.tally state.pool command)
   where
-    either : (given : Result (Reply × PlainPool) Refusal) → AreBehind seals (unless_refused (blocks_of_command state.tally state.pool command) given)
-    either (Ok done) = behind_command seals state.tally state.pool command few
+    either : (given : Result (Reply × PlainPool) Refusal) → AreAfter seals (unless_refused (blocks_of_command state.tally state.pool command) given)
+    either (Ok done) = after_command seals state.tally state.pool command few
     either (Err refusal) = refl
-behind_entry seals state (entry.Answer session reply) few = refl
-behind_entry seals state (entry.Seal group) few = refl
-behind_entry seals state (entry.Finish group held) few = refl
+after_entry seals state (entry.Answer session reply) few = refl
+after_entry seals state (entry.Seal group) few = refl
+after_entry seals state (entry.Finish group held) few = refl
 
--- what is counted behind a command
+-- what is counted after a command
 counted_is : (tally : Tally) (blocks : List MadeBlock) (given : Result (Reply × PlainPool) Refusal) → counted tally blocks given ≡ with_blocks (unless_refused blocks given) tally
 unfolding with_each
 counted_is tally blocks (Ok done) = refl
@@ -187,30 +187,30 @@ seals_grow state (entry.Answer session reply) = omega arith
 seals_grow state (entry.Seal group) = omega (arith, length-append state.tally.sealed (group ∷ []))
 seals_grow state (entry.Finish group held) = omega arith
 
--- so all that is made behind a state is behind the seals so far
-behind_history : (seals : ℕ) (state : PlainState) (history : List Entry) → seals ≤ length state.tally.sealed → AreBehind seals (blocks_behind state history)
-behind_history seals state [] few = refl
-behind_history seals state (one ∷ history) few =
-    behind_append seals (blocks_of_entry state one) (blocks_behind (step state one) history) (behind_entry seals state one few)
-    (behind_history seals (step state one) history (omega (arith, seals_grow state one)))
+-- so all that is made after a state is after the seals so far
+after_history : (seals : ℕ) (state : PlainState) (history : List Entry) → seals ≤ length state.tally.sealed → AreAfter seals (blocks_after state history)
+after_history seals state [] few = refl
+after_history seals state (one ∷ history) few =
+    later_append seals (blocks_of_entry state one) (blocks_after (step state one) history) (after_entry seals state one few)
+    (after_history seals (step state one) history (omega (arith, seals_grow state one)))
 
 -- a group has at most as many seals up to its own as there are
 few_up_to : (group : ℕ) (sealed : List ℕ) → seals_up_to group sealed ≤ length sealed
 unfolding seals_up_to
 few_up_to group sealed = either (found_from (λ (one : ℕ). one == group) 0 sealed) refl
   where
-    either : (found : Option ℕ) → found_from (λ (one : ℕ). one == group) 0 sealed ≡ found → seals_behind found ≤ length sealed
+    either : (found : Option ℕ) → found_from (λ (one : ℕ). one == group) 0 sealed ≡ found → seals_after found ≤ length sealed
     either None missing = omega arith
     either (Some place) found = let first = found_is_first (λ (one : ℕ). one == group) 0 sealed place found in omega (arith, first.within)
 
--- what is counted behind more entries, from what is counted behind the first of them
-made_more : (seals : ℕ) (made blocks others : List MadeBlock) → with_each is_block (filter (is_behind seals) (with_each is_block made blocks)) (filter (is_behind seals) others) ≡ with_each is_block (filter (is_behind seals) made) (filter (is_behind seals) (blocks ++ others))
+-- what is counted after more entries, from what is counted after the first of them
+made_more : (seals : ℕ) (made blocks others : List MadeBlock) → with_each is_block (filter (is_after seals) (with_each is_block made blocks)) (filter (is_after seals) others) ≡ with_each is_block (filter (is_after seals) made) (filter (is_after seals) (blocks ++ others))
 made_more seals made blocks others =
-    ap (λ (zs : List MadeBlock). with_each is_block zs (filter (is_behind seals) others)) (passing_with_each is_block (is_behind seals) (one_seals seals) made blocks)
-    ∙ sym (with_each_append is_block (filter (is_behind seals) made) (filter (is_behind seals) blocks) (filter (is_behind seals) others))
-    ∙ ap (with_each is_block (filter (is_behind seals) made)) (sym (filter_append (is_behind seals) blocks others))
+    ap (λ (zs : List MadeBlock). with_each is_block zs (filter (is_after seals) others)) (passing_with_each is_block (is_after seals) (one_seals seals) made blocks)
+    ∙ sym (with_each_append is_block (filter (is_after seals) made) (filter (is_after seals) blocks) (filter (is_after seals) others))
+    ∙ ap (with_each is_block (filter (is_after seals) made)) (sym (filter_append (is_after seals) blocks others))
 
--- what is counted behind each entry
+-- what is counted after each entry
 tally_after_ask : (state : PlainState) (session : ℕ) (command : Command) → (step state (entry.Ask session command)).tally ≡ with_blocks (blocks_of_entry state (entry.Ask session command)) state.tally
 unfolding step
 tally_after_ask state session command = counted_is state.tally (blocks_of_command state.tally state.pool command) (answer (next_number state) state.tally state.pool command)
@@ -223,63 +223,63 @@ tally_after_seal : (state : PlainState) (group : ℕ) → (step state (entry.Sea
 unfolding step
 tally_after_seal state group = refl
 
-tally_after_finish : (state : PlainState) (group held : ℕ) → (step state (entry.Finish group held)).tally ≡ record { sealed = state.tally.sealed; held = held; made = filter (is_behind (seals_up_to group state.tally.sealed)) state.tally.made }
+tally_after_finish : (state : PlainState) (group held : ℕ) → (step state (entry.Finish group held)).tally ≡ record { sealed = state.tally.sealed; held = held; made = filter (is_after (seals_up_to group state.tally.sealed)) state.tally.made }
 unfolding step with_finish
 tally_after_finish state group held = refl
 
--- what is made behind a state
-abbrev MadeBehind : PlainState → List Entry → Type 0
-MadeBehind state history =
+-- what is made after a state
+abbrev MadeAfter : PlainState → List Entry → Type 0
+MadeAfter state history =
     (fold step state history).tally.made
-    ≡ with_each is_block (filter (is_behind (seals_finished state.tally.sealed history)) state.tally.made) (filter (is_behind (seals_finished state.tally.sealed history)) (blocks_behind state history))
+    ≡ with_each is_block (filter (is_after (seals_finished state.tally.sealed history)) state.tally.made) (filter (is_after (seals_finished state.tally.sealed history)) (blocks_after state history))
 
-made_behind : (state : PlainState) (history : List Entry) → MadeBehind state history
+made_after : (state : PlainState) (history : List Entry) → MadeAfter state history
 unfolding with_each
-made_behind state [] = sym (filter_all (is_behind 0) state.tally.made (λ block. le-leb 0 block.seals (omega arith)))
-made_behind state (entry.Ask session command ∷ history) =
+made_after state [] = sym (filter_all (is_after 0) state.tally.made (λ block. le-leb 0 block.seals (omega arith)))
+made_after state (entry.Ask session command ∷ history) =
     let after = step state (entry.Ask session command) in
-    made_behind after history
-    ∙ ap (λ (t : Tally). with_each is_block (filter (is_behind (seals_finished t.sealed history)) t.made) (filter (is_behind (seals_finished t.sealed history)) (blocks_behind after history))) (tally_after_ask state session command)
-    ∙ made_more (seals_finished state.tally.sealed history) state.tally.made (blocks_of_entry state (entry.Ask session command)) (blocks_behind after history)
-made_behind state (entry.Answer session reply ∷ history) =
+    made_after after history
+    ∙ ap (λ (t : Tally). with_each is_block (filter (is_after (seals_finished t.sealed history)) t.made) (filter (is_after (seals_finished t.sealed history)) (blocks_after after history))) (tally_after_ask state session command)
+    ∙ made_more (seals_finished state.tally.sealed history) state.tally.made (blocks_of_entry state (entry.Ask session command)) (blocks_after after history)
+made_after state (entry.Answer session reply ∷ history) =
     let after = step state (entry.Answer session reply) in
-    made_behind after history
-    ∙ ap (λ (t : Tally). with_each is_block (filter (is_behind (seals_finished t.sealed history)) t.made) (filter (is_behind (seals_finished t.sealed history)) (blocks_behind after history))) (tally_after_answer state session reply)
-made_behind state (entry.Seal group ∷ history) =
+    made_after after history
+    ∙ ap (λ (t : Tally). with_each is_block (filter (is_after (seals_finished t.sealed history)) t.made) (filter (is_after (seals_finished t.sealed history)) (blocks_after after history))) (tally_after_answer state session reply)
+made_after state (entry.Seal group ∷ history) =
     let after = step state (entry.Seal group) in
-    made_behind after history
-    ∙ ap (λ (t : Tally). with_each is_block (filter (is_behind (seals_finished t.sealed history)) t.made) (filter (is_behind (seals_finished t.sealed history)) (blocks_behind after history))) (tally_after_seal state group)
-made_behind state (entry.Finish group held ∷ history) =
+    made_after after history
+    ∙ ap (λ (t : Tally). with_each is_block (filter (is_after (seals_finished t.sealed history)) t.made) (filter (is_after (seals_finished t.sealed history)) (blocks_after after history))) (tally_after_seal state group)
+made_after state (entry.Finish group held ∷ history) =
     let after = step state (entry.Finish group held) in
-    let others = blocks_behind after history in
+    let others = blocks_after after history in
     let up_to = seals_up_to group state.tally.sealed in
     let later = seals_finished state.tally.sealed history in
     let few : up_to ≤ length after.tally.sealed = omega (arith, few_up_to group state.tally.sealed, seals_grow state (entry.Finish group held)) in
-    let all : AreBehind up_to others = behind_history up_to after history few in
-    made_behind after history
-    ∙ ap (λ (t : Tally). with_each is_block (filter (is_behind (seals_finished t.sealed history)) t.made) (filter (is_behind (seals_finished t.sealed history)) others)) (tally_after_finish state group held)
-    ∙ ap (λ (zs : List MadeBlock). with_each is_block zs (filter (is_behind later) others)) (behind_both later up_to state.tally.made)
-    ∙ ap (with_each is_block (filter (is_behind (max up_to later)) state.tally.made)) (sym (ap (filter (is_behind later)) all) ∙ behind_both later up_to others)
+    let all : AreAfter up_to others = after_history up_to after history few in
+    made_after after history
+    ∙ ap (λ (t : Tally). with_each is_block (filter (is_after (seals_finished t.sealed history)) t.made) (filter (is_after (seals_finished t.sealed history)) others)) (tally_after_finish state group held)
+    ∙ ap (λ (zs : List MadeBlock). with_each is_block zs (filter (is_after later) others)) (after_both later up_to state.tally.made)
+    ∙ ap (with_each is_block (filter (is_after (max up_to later)) state.tally.made)) (sym (ap (filter (is_after later)) all) ∙ after_both later up_to others)
 
 -- how many blocks the last finished group holds
-held_behind : (state : PlainState) (history : List Entry) → (fold step state history).tally.held ≡ held_finished state.tally.held history
-held_behind state [] = refl
-held_behind state (entry.Ask session command ∷ history) =
-    held_behind (step state (entry.Ask session command)) history ∙ ap (λ (t : Tally). held_finished t.held history) (tally_after_ask state session command)
-held_behind state (entry.Answer session reply ∷ history) =
-    held_behind (step state (entry.Answer session reply)) history ∙ ap (λ (t : Tally). held_finished t.held history) (tally_after_answer state session reply)
-held_behind state (entry.Seal group ∷ history) = held_behind (step state (entry.Seal group)) history ∙ ap (λ (t : Tally). held_finished t.held history) (tally_after_seal state group)
-held_behind state (entry.Finish group held ∷ history) = held_behind (step state (entry.Finish group held)) history ∙ ap (λ (t : Tally). held_finished t.held history) (tally_after_finish state group held)
+held_later : (state : PlainState) (history : List Entry) → (fold step state history).tally.held ≡ held_finished state.tally.held history
+held_later state [] = refl
+held_later state (entry.Ask session command ∷ history) =
+    held_later (step state (entry.Ask session command)) history ∙ ap (λ (t : Tally). held_finished t.held history) (tally_after_ask state session command)
+held_later state (entry.Answer session reply ∷ history) =
+    held_later (step state (entry.Answer session reply)) history ∙ ap (λ (t : Tally). held_finished t.held history) (tally_after_answer state session reply)
+held_later state (entry.Seal group ∷ history) = held_later (step state (entry.Seal group)) history ∙ ap (λ (t : Tally). held_finished t.held history) (tally_after_seal state group)
+held_later state (entry.Finish group held ∷ history) = held_later (step state (entry.Finish group held)) history ∙ ap (λ (t : Tally). held_finished t.held history) (tally_after_finish state group held)
 
 -- what is counted is what was made since
 pub made_is : (start : PlainPool) (history : List Entry) → (state_after start history).tally.made ≡ made_since start history
-made_is start history = made_behind (begun start) history
+made_is start history = made_after (begun start) history
 
 -- and the charge is what it is called
 pub charge_is : (start : PlainPool) (history : List Entry) → charge_of (state_after start history).tally ≡ held_finished (held_by start) history + length (made_since start history)
 charge_is start history =
     let made = ap (λ (blocks : List MadeBlock). length blocks) (made_is start history) in
-    omega (arith, held_behind (begun start) history, made)
+    omega (arith, held_later (begun start) history, made)
 
 -- two blocks are one where they are tested so
 block_of : ℕ → ℕ → ℕ → ℕ → MadeBlock
@@ -311,11 +311,11 @@ stands_among (y ∷ xs) zero x stands =
     rw is refl
 stands_among (y ∷ xs) (suc a) x stands =
     let rest = stands_among xs a x stands in
-    rw rest (true_behind (is_block x y))
+    rw rest (true_after (is_block x y))
   where
-    true_behind : (b : Bool) → (b || true) ≡ true
-    true_behind true = refl
-    true_behind false = refl
+    true_after : (b : Bool) → (b || true) ≡ true
+    true_after true = refl
+    true_after false = refl
 
 once_more : (items : List MadeBlock) (item : MadeBlock) → EachOnce items → EachOnce (with_one is_block items item)
 once_more items item once =
@@ -388,13 +388,13 @@ among_each block items (item ∷ more) =
     ∙ ap (λ (b : Bool). b || list_any (is_block block) more) (among_one block item items)
     ∙ or_assoc (list_any (is_block block) items) (is_block block item) (list_any (is_block block) more)
 
--- so what is charged behind the last finished group is each block that was made since, and none twice
+-- so what is charged after the last finished group is each block that was made since, and none twice
 pub made_once : (start : PlainPool) (history : List Entry) → EachOnce (made_since start history)
-made_once start history = once_each [] (filter (is_behind (seals_finished [] history)) (blocks_behind (begun start) history)) (λ a b x first second. no_item x first)
+made_once start history = once_each [] (filter (is_after (seals_finished [] history)) (blocks_after (begun start) history)) (λ a b x first second. no_item x first)
 
 pub made_all : (start : PlainPool) (history : List Entry) (block : MadeBlock)
-    → list_any (is_block block) (made_since start history) ≡ list_any (is_block block) (filter (is_behind (seals_finished [] history)) (blocks_behind (begun start) history))
-made_all start history block = among_each block [] (filter (is_behind (seals_finished [] history)) (blocks_behind (begun start) history))
+    → list_any (is_block block) (made_since start history) ≡ list_any (is_block block) (filter (is_after (seals_finished [] history)) (blocks_after (begun start) history))
+made_all start history block = among_each block [] (filter (is_after (seals_finished [] history)) (blocks_after (begun start) history))
 
 -- one more finished group is the latest, or an earlier one is
 finished_more : (state : PlainState) (history : List Entry) (group held : ℕ)

@@ -55,7 +55,7 @@ find_by_place test xs = find_at test xs ∙ either (nat_lt (position_or_len test
     either true is = refl
     either false is = nothing_past xs (position_or_len test xs) (ltb-false (position_or_len test xs) (length xs) is)
 
--- an item that fails, behind others, changes nothing
+-- an item that fails, after others, changes nothing
 find_before_failing : {X : Type 0} (test : X → Bool) (xs : List X) (y : X) → test y ≡ false → find test (xs ++ y ∷ []) ≡ find test xs
 find_before_failing {X} test xs y fails = find-append test xs (y ∷ []) ∙ rw fails (or_none (find test xs))
   where

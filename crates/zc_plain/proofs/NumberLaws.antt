@@ -15,9 +15,9 @@ use Rattle.zc_plain.specs.Written.{written}
 use Rattle.zc_plain.specs.Truncated.{truncated}
 use Rattle.zc_plain.specs.IsPlain.{StandsAt}
 use Rattle.zc_plain.specs.Promises.{LivesOn, GivesNoNumberTwice}
-use Rattle.zc_plain.specs.Answer.{refuse_long, refuse_end, refuse_charge, blocks_cut, most_datasets, most_files, most_read, dataset_place, file_place, dataset_of, path_of, mkds, rmds, mount, create, remove, write, fill, truncate, read, stat, named_answer, answer}
+use Rattle.zc_plain.specs.Answer.{refuse_long, refuse_end, refuse_charge, blocks_trimmed, most_datasets, most_files, most_read, dataset_place, file_place, dataset_of, path_of, mkds, rmds, mount, create, remove, write, fill, truncate, read, stat, named_answer, answer}
 use Rattle.zc_plain.proofs.NumberedLaws.{stood_or_new, stood_or_changed, stood_before_removal, skipped}
-use Rattle.zc_plain.proofs.PlainLaws.{behind_test, behind_found, behind_put, next_of}
+use Rattle.zc_plain.proofs.PlainLaws.{after_test, after_found, after_put, next_of}
 use Rattle.zc_plain.proofs.WrittenLaws.{id_of_written, name_of_written}
 use Rattle.zc_plain.proofs.TruncatedLaws.{id_of_truncated, name_of_truncated}
 
@@ -93,50 +93,50 @@ less_dataset at pool = record {
 }
 
 -- a pool with bytes written into a file
-behind_written : (number : ℕ) (dataset file : List ℕ) (offset : ℕ) (bytes : List ℕ) (tally : Tally) (pool : PlainPool) → GivesNoNumberTwice pool (next_of pool (write number dataset file offset bytes tally pool))
+after_written : (number : ℕ) (dataset file : List ℕ) (offset : ℕ) (bytes : List ℕ) (tally : Tally) (pool : PlainPool) → GivesNoNumberTwice pool (next_of pool (write number dataset file offset bytes tally pool))
 unfolding write
-behind_written number dataset file offset bytes tally pool =
+after_written number dataset file offset bytes tally pool =
     let P = λ (r : Result (Reply × PlainPool) Refusal). GivesNoNumberTwice pool (next_of pool r) in
-    behind_found P (path_of dataset file pool) _ (λ refusal. unchanged pool)
-    (λ path found. behind_put P number path offset bytes tally pool (λ refusal. unchanged pool) (unchanged pool)
+    after_found P (path_of dataset file pool) _ (λ refusal. unchanged pool)
+    (λ path found. after_put P number path offset bytes tally pool (λ refusal. unchanged pool) (unchanged pool)
     (in_place path.dataset (in_files path.file (written number offset bytes)) pool (λ d. with_change path.file (written number offset bytes) d (id_of_written number offset bytes) (name_of_written number offset bytes))))
 
 no_number_twice_named : (number : ℕ) (tally : Tally) (pool : PlainPool) (command : Command) → GivesNoNumberTwice pool (next_of pool (named_answer number tally pool command))
 unfolding mkds rmds mount create remove fill truncate read stat
 no_number_twice_named number tally pool (Mkds dataset) =
     let P = λ (r : Result (Reply × PlainPool) Refusal). GivesNoNumberTwice pool (next_of pool r) in
-    behind_test P (is_some (dataset_place dataset pool)) Eexist _ (unchanged pool)
-    (λ missing. behind_test P (nat_lt most_datasets (length pool.datasets + 1)) _ _ (unchanged pool) (λ few. with_dataset dataset pool))
+    after_test P (is_some (dataset_place dataset pool)) Eexist _ (unchanged pool)
+    (λ missing. after_test P (nat_lt most_datasets (length pool.datasets + 1)) _ _ (unchanged pool) (λ few. with_dataset dataset pool))
 no_number_twice_named number tally pool (Rmds dataset) =
-    behind_found (λ (r : Result (Reply × PlainPool) Refusal). GivesNoNumberTwice pool (next_of pool r)) (dataset_of dataset pool) _ (λ refusal. unchanged pool) (λ place found. less_dataset place pool)
+    after_found (λ (r : Result (Reply × PlainPool) Refusal). GivesNoNumberTwice pool (next_of pool r)) (dataset_of dataset pool) _ (λ refusal. unchanged pool) (λ place found. less_dataset place pool)
 no_number_twice_named number tally pool (Mount dataset) =
-    behind_found (λ (r : Result (Reply × PlainPool) Refusal). GivesNoNumberTwice pool (next_of pool r)) (dataset_of dataset pool) _ (λ refusal. unchanged pool) (λ place found. unchanged pool)
+    after_found (λ (r : Result (Reply × PlainPool) Refusal). GivesNoNumberTwice pool (next_of pool r)) (dataset_of dataset pool) _ (λ refusal. unchanged pool) (λ place found. unchanged pool)
 no_number_twice_named number tally pool (Create dataset file) =
     let P = λ (r : Result (Reply × PlainPool) Refusal). GivesNoNumberTwice pool (next_of pool r) in
-    behind_found P (dataset_of dataset pool) _ (λ refusal. unchanged pool)
-    (λ place found. behind_test P (is_some (file_place file (dataset_at place pool))) Eexist _ (unchanged pool)
-    (λ missing. behind_test P (nat_lt (most_files pool) (length (dataset_at place pool).files + 1)) _ _ (unchanged pool)
+    after_found P (dataset_of dataset pool) _ (λ refusal. unchanged pool)
+    (λ place found. after_test P (is_some (file_place file (dataset_at place pool))) Eexist _ (unchanged pool)
+    (λ missing. after_test P (nat_lt (most_files pool) (length (dataset_at place pool).files + 1)) _ _ (unchanged pool)
     (λ few. in_place place (with_new_file file) pool (with_file file))))
 no_number_twice_named number tally pool (Remove dataset file) =
-    behind_found (λ (r : Result (Reply × PlainPool) Refusal). GivesNoNumberTwice pool (next_of pool r)) (path_of dataset file pool) _ (λ refusal. unchanged pool)
+    after_found (λ (r : Result (Reply × PlainPool) Refusal). GivesNoNumberTwice pool (next_of pool r)) (path_of dataset file pool) _ (λ refusal. unchanged pool)
     (λ path found. in_place path.dataset (without_file path.file) pool (less_file path.file))
-no_number_twice_named number tally pool (Write dataset file offset bytes) = behind_written number dataset file offset bytes tally pool
-no_number_twice_named number tally pool (Fill dataset file offset len byte) = behind_written number dataset file offset (replicate len byte) tally pool
+no_number_twice_named number tally pool (Write dataset file offset bytes) = after_written number dataset file offset bytes tally pool
+no_number_twice_named number tally pool (Fill dataset file offset len byte) = after_written number dataset file offset (replicate len byte) tally pool
 no_number_twice_named number tally pool (Truncate dataset file size) =
     let P = λ (r : Result (Reply × PlainPool) Refusal). GivesNoNumberTwice pool (next_of pool r) in
-    behind_found P (path_of dataset file pool) _ (λ refusal. unchanged pool)
-    (λ path found. behind_found P (refuse_end size pool) _ (λ refusal. unchanged pool)
-    (λ _ short. behind_found P (refuse_charge (blocks_cut tally size path pool) tally pool) _ (λ refusal. unchanged pool)
+    after_found P (path_of dataset file pool) _ (λ refusal. unchanged pool)
+    (λ path found. after_found P (refuse_end size pool) _ (λ refusal. unchanged pool)
+    (λ _ short. after_found P (refuse_charge (blocks_trimmed tally size path pool) tally pool) _ (λ refusal. unchanged pool)
     (λ _ free. in_place path.dataset (in_files path.file (truncated number size)) pool (λ d. with_change path.file (truncated number size) d (id_of_truncated number size) (name_of_truncated number size)))))
 no_number_twice_named number tally pool (Read dataset file offset len) =
     let P = λ (r : Result (Reply × PlainPool) Refusal). GivesNoNumberTwice pool (next_of pool r) in
-    behind_found P (path_of dataset file pool) _ (λ refusal. unchanged pool) (λ path found. behind_test P (nat_lt most_read len) _ _ (unchanged pool) (λ short. unchanged pool))
+    after_found P (path_of dataset file pool) _ (λ refusal. unchanged pool) (λ path found. after_test P (nat_lt most_read len) _ _ (unchanged pool) (λ short. unchanged pool))
 no_number_twice_named number tally pool (Stat dataset file) =
-    behind_found (λ (r : Result (Reply × PlainPool) Refusal). GivesNoNumberTwice pool (next_of pool r)) (path_of dataset file pool) _ (λ refusal. unchanged pool) (λ path found. unchanged pool)
+    after_found (λ (r : Result (Reply × PlainPool) Refusal). GivesNoNumberTwice pool (next_of pool r)) (path_of dataset file pool) _ (λ refusal. unchanged pool) (λ path found. unchanged pool)
 no_number_twice_named number tally pool Commit = unchanged pool
 
 -- no command gives a number twice
 pub no_number_twice : (number : ℕ) (tally : Tally) (pool : PlainPool) (command : Command) → GivesNoNumberTwice pool (next_of pool (answer number tally pool command))
 unfolding answer
 no_number_twice number tally pool command =
-    behind_found (λ r. GivesNoNumberTwice pool (next_of pool r)) (refuse_long command) _ (λ refusal. unchanged pool) (λ _ short. no_number_twice_named number tally pool command)
+    after_found (λ r. GivesNoNumberTwice pool (next_of pool r)) (refuse_long command) _ (λ refusal. unchanged pool) (λ _ short. no_number_twice_named number tally pool command)

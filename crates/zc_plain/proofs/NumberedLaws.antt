@@ -27,7 +27,7 @@ stood_or_new (z ∷ xs) x zero y stands = inl stands
 stood_or_new (z ∷ xs) x (suc a) y stands =
     ⊎_elim (λ (before : StandsAt xs a y). inl before) (λ (new : (a ≡ length xs) × (y ≡ x)). inr (ap suc new.0, new.1)) (stood_or_new xs x a y stands)
 
--- what stood in a list stands there with one more item behind
+-- what stood in a list stands there with one more item after
 pub stands_in_more : {X : Type 0} (xs ys : List X) (a : ℕ) (y : X) → StandsAt xs a y → StandsAt (xs ++ ys) a y
 stands_in_more [] ys a y stands = no_item y stands
 stands_in_more (z ∷ xs) ys zero y stands = stands

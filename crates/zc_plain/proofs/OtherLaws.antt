@@ -27,7 +27,7 @@ some_of x = Some x
 abbrev path_at : ℕ → ℕ → Path
 path_at dataset file = record { dataset = dataset; file = file }
 
--- what is found is found with more items behind it
+-- what is found is found with more items after it
 pub found_in_more : {X : Type 0} (test : X → Bool) (k : ℕ) (xs ys : List X) (place : ℕ) → found_from test k xs ≡ Some place → found_from test k (xs ++ ys) ≡ Some place
 found_in_more test k [] ys place found = no_item place found
 found_in_more test k (x ∷ xs) ys place found =
@@ -46,7 +46,7 @@ found_in_changed test f k (suc place) (x ∷ xs) unseen =
     (λ (fails : test x ≡ false). rw fails (found_in_changed test f (k + 1) place xs unseen))
     (cases_Bool (test x))
 
--- an item that fails a test, behind others, changes nothing that it finds
+-- an item that fails a test, after others, changes nothing that it finds
 found_before_failing : {X : Type 0} (test : X → Bool) (k : ℕ) (xs : List X) (x : X) → test x ≡ false → found_from test k (xs ++ x ∷ []) ≡ found_from test k xs
 found_before_failing test k [] x fails = rw fails refl
 found_before_failing test k (y ∷ xs) x fails =
@@ -76,7 +76,7 @@ found_last test k (y ∷ xs) x missing passes =
     (λ (other : test y ≡ false). let there = rw other at missing in rw other (found_last test (k + 1) xs x there passes ∙ ap some_of (omega arith)))
     (cases_Bool (test y))
 
--- an item behind others
+-- an item after others
 last_stands : {X : Type 0} (xs : List X) (x : X) → StandsAt (xs ++ x ∷ []) (length xs) x
 last_stands [] x = refl
 last_stands (y ∷ xs) x = last_stands xs x

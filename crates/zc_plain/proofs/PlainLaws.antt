@@ -19,22 +19,22 @@ use Rattle.zc_plain.specs.declared.tally.Tally.{Tally}
 use Rattle.zc_plain.specs.Written.{written}
 use Rattle.zc_plain.specs.Truncated.{truncated}
 use Rattle.zc_plain.specs.IsPlain.{StandsAt, AreNumbered, IsPlainFile, IsPlainDataset, IsPlain}
-use Rattle.zc_plain.specs.Answer.{◌>>=◌, refuse_if, refuse_long, most_datasets, most_files, most_bytes, most_read, dataset_place, file_place, dataset_of, path_of, mkds, rmds, mount, create, remove, put_some, put, write, fill, truncate, read, stat, room_in_file, refuse_charge, blocks_touched, blocks_cut, named_answer, answer, settled}
+use Rattle.zc_plain.specs.Answer.{◌>>=◌, refuse_if, refuse_long, most_datasets, most_files, most_bytes, most_read, dataset_place, file_place, dataset_of, path_of, mkds, rmds, mount, create, remove, put_some, put, write, fill, truncate, read, stat, room_in_file, refuse_charge, blocks_touched, blocks_trimmed, named_answer, answer, settled}
 use Rattle.zc_plain.proofs.Bytes.{zero_of_zeros, length_zeros}
 use Rattle.zc_plain.proofs.Places.{dataset_there}
 use Rattle.zc_plain.proofs.NumberedLaws.{no_item, stood_or_new, stood_or_changed, no_item_has, numbered_more, numbered_changed, stood_before_removal, length_removed, numbered_less, skipped}
 use Rattle.zc_plain.proofs.WrittenLaws.{plain_once_written, id_of_written, name_of_written, size_of_written}
 use Rattle.zc_plain.proofs.TruncatedLaws.{plain_once_truncated, id_of_truncated, name_of_truncated, size_of_truncated}
 
--- what holds behind a test, where it holds of the refusal and of what comes where the test fails
-pub behind_test : {A : Type 0} (P : Result A Refusal → Type 0) (test : Bool) (refusal : Refusal) (next : Result A Refusal) → P (Err refusal) → (test ≡ false → P next) → P (refuse_if test refusal >>= (λ _. next))
-behind_test P true refusal next refused goes = refused
-behind_test P false refusal next refused goes = goes refl
+-- what holds after a test, where it holds of the refusal and of what comes where the test fails
+pub after_test : {A : Type 0} (P : Result A Refusal → Type 0) (test : Bool) (refusal : Refusal) (next : Result A Refusal) → P (Err refusal) → (test ≡ false → P next) → P (refuse_if test refusal >>= (λ _. next))
+after_test P true refusal next refused goes = refused
+after_test P false refusal next refused goes = goes refl
 
--- what holds behind a search
-pub behind_found : {A B : Type 0} (P : Result B Refusal → Type 0) (first : Result A Refusal) (next : A → Result B Refusal) → ((refusal : Refusal) → P (Err refusal)) → ((x : A) → first ≡ Ok x → P (next x)) → P (first >>= next)
-behind_found P (Err refusal) next refused goes = refused refusal
-behind_found P (Ok x) next refused goes = goes x refl
+-- what holds after a search
+pub after_found : {A B : Type 0} (P : Result B Refusal → Type 0) (first : Result A Refusal) (next : A → Result B Refusal) → ((refusal : Refusal) → P (Err refusal)) → ((x : A) → first ≡ Ok x → P (next x)) → P (first >>= next)
+after_found P (Err refusal) next refused goes = refused refusal
+after_found P (Ok x) next refused goes = goes x refl
 
 -- no item is a list of numbered items
 numbered_none : {X : Type 0} (number_of : X → ℕ) (name_of : X → List ℕ) (next : ℕ) → 1 ≤ next → AreNumbered number_of name_of next []
@@ -161,16 +161,16 @@ next_of pool given = (settled pool given).1
 plain_after_mkds : (dataset : List ℕ) (pool : PlainPool) → IsPlain pool → IsPlain (next_of pool (mkds dataset pool))
 unfolding mkds
 plain_after_mkds dataset pool plain =
-    behind_test (λ r. IsPlain (next_of pool r)) (is_some (dataset_place dataset pool)) Eexist _ plain
-    (λ missing. behind_test (λ r. IsPlain (next_of pool r)) (nat_lt most_datasets (length pool.datasets + 1)) _ _ plain
+    after_test (λ r. IsPlain (next_of pool r)) (is_some (dataset_place dataset pool)) Eexist _ plain
+    (λ missing. after_test (λ r. IsPlain (next_of pool r)) (nat_lt most_datasets (length pool.datasets + 1)) _ _ plain
     (λ few. plain_with_dataset dataset pool plain missing (ltb-false most_datasets (length pool.datasets + 1) few)))
 
 plain_after_create : (dataset file : List ℕ) (pool : PlainPool) → IsPlain pool → IsPlain (next_of pool (create dataset file pool))
 unfolding create
 plain_after_create dataset file pool plain =
-    behind_found (λ r. IsPlain (next_of pool r)) (dataset_of dataset pool) _ (λ refusal. plain)
-    (λ place found. behind_test (λ r. IsPlain (next_of pool r)) (is_some (file_place file (dataset_at place pool))) Eexist _ plain
-    (λ missing. behind_test (λ r. IsPlain (next_of pool r)) (nat_lt (most_files pool) (length (dataset_at place pool).files + 1)) _ _ plain
+    after_found (λ r. IsPlain (next_of pool r)) (dataset_of dataset pool) _ (λ refusal. plain)
+    (λ place found. after_test (λ r. IsPlain (next_of pool r)) (is_some (file_place file (dataset_at place pool))) Eexist _ plain
+    (λ missing. after_test (λ r. IsPlain (next_of pool r)) (nat_lt (most_files pool) (length (dataset_at place pool).files + 1)) _ _ plain
     (λ few. plain_in_dataset place (with_new_file file) pool (λ d. refl) (λ d. refl)
     (λ d stands is.
     let same = dataset_there pool place d stands in
@@ -180,17 +180,17 @@ plain_after_create dataset file pool plain =
 plain_after_rmds : (dataset : List ℕ) (pool : PlainPool) → IsPlain pool → IsPlain (next_of pool (rmds dataset pool))
 unfolding rmds
 plain_after_rmds dataset pool plain =
-    behind_found (λ r. IsPlain (next_of pool r)) (dataset_of dataset pool) _ (λ refusal. plain) (λ place found. plain_without_dataset place pool plain)
+    after_found (λ r. IsPlain (next_of pool r)) (dataset_of dataset pool) _ (λ refusal. plain) (λ place found. plain_without_dataset place pool plain)
 
 plain_after_mount : (dataset : List ℕ) (pool : PlainPool) → IsPlain pool → IsPlain (next_of pool (mount dataset pool))
 unfolding mount
 plain_after_mount dataset pool plain =
-    behind_found (λ r. IsPlain (next_of pool r)) (dataset_of dataset pool) _ (λ refusal. plain) (λ place found. plain)
+    after_found (λ r. IsPlain (next_of pool r)) (dataset_of dataset pool) _ (λ refusal. plain) (λ place found. plain)
 
 plain_after_remove : (dataset file : List ℕ) (pool : PlainPool) → IsPlain pool → IsPlain (next_of pool (remove dataset file pool))
 unfolding remove
 plain_after_remove dataset file pool plain =
-    behind_found (λ r. IsPlain (next_of pool r)) (path_of dataset file pool) _ (λ refusal. plain)
+    after_found (λ r. IsPlain (next_of pool r)) (path_of dataset file pool) _ (λ refusal. plain)
     (λ path found. plain_in_dataset path.dataset (without_file path.file) pool (λ d. refl) (λ d. refl) (λ d stands is. plain_without_file (most_files pool) (most_bytes pool) path.file d is) plain)
 
 -- where a file has room for bytes, they end within its limit
@@ -208,22 +208,22 @@ ends_within offset len path pool done room =
     refused : {A : Type 0} (refusal : Refusal) (done : Unit {0}) → Err refusal ≡ room_of done → A
     refused refusal done e = cc
 
--- what holds behind the refusals of a write for want of room
-pub behind_put_within : (P : Result (Reply × PlainPool) Refusal → Type 0) (number : ℕ) (path : Path) (offset : ℕ) (bytes : List ℕ) (tally : Tally) (pool : PlainPool) → ((refusal : Refusal) → P (Err refusal))
+-- what holds after the refusals of a write for want of room
+pub after_put_within : (P : Result (Reply × PlainPool) Refusal → Type 0) (number : ℕ) (path : Path) (offset : ℕ) (bytes : List ℕ) (tally : Tally) (pool : PlainPool) → ((refusal : Refusal) → P (Err refusal))
     → P (Ok (Count 0, pool)) → (offset + length bytes ≤ most_bytes pool → P (Ok (Count (length bytes), in_file path (written number offset bytes) pool))) → P (put number path offset bytes tally pool)
 unfolding put put_some
-behind_put_within P number path offset bytes tally pool refused none some =
+after_put_within P number path offset bytes tally pool refused none some =
     ⊎_elim
     (λ (empty : (length bytes == 0) ≡ true). rw empty none)
     (λ (full : (length bytes == 0) ≡ false).
-    rw full (behind_found P (room_in_file offset (length bytes) path pool) _ refused
-    (λ done room. behind_found P (refuse_charge (blocks_touched tally offset (length bytes) path pool) tally pool) _ refused
+    rw full (after_found P (room_in_file offset (length bytes) path pool) _ refused
+    (λ done room. after_found P (refuse_charge (blocks_touched tally offset (length bytes) path pool) tally pool) _ refused
     (λ _ free. some (ends_within offset (length bytes) path pool done room)))))
     (cases_Bool (length bytes == 0))
 
-pub behind_put : (P : Result (Reply × PlainPool) Refusal → Type 0) (number : ℕ) (path : Path) (offset : ℕ) (bytes : List ℕ) (tally : Tally) (pool : PlainPool) → ((refusal : Refusal) → P (Err refusal))
+pub after_put : (P : Result (Reply × PlainPool) Refusal → Type 0) (number : ℕ) (path : Path) (offset : ℕ) (bytes : List ℕ) (tally : Tally) (pool : PlainPool) → ((refusal : Refusal) → P (Err refusal))
     → P (Ok (Count 0, pool)) → P (Ok (Count (length bytes), in_file path (written number offset bytes) pool)) → P (put number path offset bytes tally pool)
-behind_put P number path offset bytes tally pool refused none some = behind_put_within P number path offset bytes tally pool refused none (λ within. some)
+after_put P number path offset bytes tally pool refused none some = after_put_within P number path offset bytes tally pool refused none (λ within. some)
 
 -- a file into which bytes are written ends where it did, or where they do
 pub short_once_written : (most number offset : ℕ) (bytes : List ℕ) (file : PlainFile) → file.size ≤ most → offset + length bytes ≤ most → (written number offset bytes file).size ≤ most
@@ -235,8 +235,8 @@ short_once_truncated most number size file within = omega (arith, size_of_trunca
 plain_after_write : (number : ℕ) (dataset file : List ℕ) (offset : ℕ) (bytes : List ℕ) (tally : Tally) (pool : PlainPool) → IsPlain pool → IsPlain (next_of pool (write number dataset file offset bytes tally pool))
 unfolding write
 plain_after_write number dataset file offset bytes tally pool plain =
-    behind_found (λ r. IsPlain (next_of pool r)) (path_of dataset file pool) _ (λ refusal. plain)
-    (λ path found. behind_put_within (λ r. IsPlain (next_of pool r)) number path offset bytes tally pool (λ refusal. plain) plain
+    after_found (λ r. IsPlain (next_of pool r)) (path_of dataset file pool) _ (λ refusal. plain)
+    (λ path found. after_put_within (λ r. IsPlain (next_of pool r)) number path offset bytes tally pool (λ refusal. plain) plain
     (λ within. plain_in_file path (written number offset bytes) pool (id_of_written number offset bytes) (name_of_written number offset bytes) (plain_once_written number offset bytes)
     (λ file before. short_once_written (most_bytes pool) number offset bytes file before within) plain))
 
@@ -247,21 +247,21 @@ plain_after_fill number dataset file offset len byte tally pool plain = plain_af
 plain_after_truncate : (number : ℕ) (dataset file : List ℕ) (size : ℕ) (tally : Tally) (pool : PlainPool) → IsPlain pool → IsPlain (next_of pool (truncate number dataset file size tally pool))
 unfolding truncate
 plain_after_truncate number dataset file size tally pool plain =
-    behind_found (λ r. IsPlain (next_of pool r)) (path_of dataset file pool) _ (λ refusal. plain)
-    (λ path found. behind_test (λ r. IsPlain (next_of pool r)) (nat_lt (most_bytes pool) size) _ _ plain
-    (λ short. behind_found (λ r. IsPlain (next_of pool r)) (refuse_charge (blocks_cut tally size path pool) tally pool) _ (λ refusal. plain)
+    after_found (λ r. IsPlain (next_of pool r)) (path_of dataset file pool) _ (λ refusal. plain)
+    (λ path found. after_test (λ r. IsPlain (next_of pool r)) (nat_lt (most_bytes pool) size) _ _ plain
+    (λ short. after_found (λ r. IsPlain (next_of pool r)) (refuse_charge (blocks_trimmed tally size path pool) tally pool) _ (λ refusal. plain)
     (λ _ free. plain_in_file path (truncated number size) pool (id_of_truncated number size) (name_of_truncated number size) (plain_once_truncated number size)
     (λ file before. short_once_truncated (most_bytes pool) number size file (ltb-false (most_bytes pool) size short)) plain)))
 
 plain_after_read : (dataset file : List ℕ) (offset len : ℕ) (pool : PlainPool) → IsPlain pool → IsPlain (next_of pool (read dataset file offset len pool))
 unfolding read
 plain_after_read dataset file offset len pool plain =
-    behind_found (λ r. IsPlain (next_of pool r)) (path_of dataset file pool) _ (λ refusal. plain) (λ path found. behind_test (λ r. IsPlain (next_of pool r)) (nat_lt most_read len) _ _ plain (λ short. plain))
+    after_found (λ r. IsPlain (next_of pool r)) (path_of dataset file pool) _ (λ refusal. plain) (λ path found. after_test (λ r. IsPlain (next_of pool r)) (nat_lt most_read len) _ _ plain (λ short. plain))
 
 plain_after_stat : (dataset file : List ℕ) (pool : PlainPool) → IsPlain pool → IsPlain (next_of pool (stat dataset file pool))
 unfolding stat
 plain_after_stat dataset file pool plain =
-    behind_found (λ r. IsPlain (next_of pool r)) (path_of dataset file pool) _ (λ refusal. plain) (λ path found. plain)
+    after_found (λ r. IsPlain (next_of pool r)) (path_of dataset file pool) _ (λ refusal. plain) (λ path found. plain)
 
 plain_after_named : (number : ℕ) (tally : Tally) (pool : PlainPool) (command : Command) → IsPlain pool → IsPlain (next_of pool (named_answer number tally pool command))
 plain_after_named number tally pool (Mkds dataset) plain = plain_after_mkds dataset pool plain
@@ -279,7 +279,7 @@ plain_after_named number tally pool Commit plain = plain
 pub plain_after : (number : ℕ) (tally : Tally) (pool : PlainPool) (command : Command) → IsPlain pool → IsPlain (next_of pool (answer number tally pool command))
 unfolding answer
 plain_after number tally pool command plain =
-    behind_found (λ r. IsPlain (next_of pool r)) (refuse_long command) _ (λ refusal. plain) (λ _ short. plain_after_named number tally pool command plain)
+    after_found (λ r. IsPlain (next_of pool r)) (refuse_long command) _ (λ refusal. plain) (λ _ short. plain_after_named number tally pool command plain)
 
 -- what stands at a place of a plain pool is plain
 pub plain_dataset_at : (pool : PlainPool) (place : ℕ) → IsPlain pool → IsPlainDataset (most_files pool) (most_bytes pool) (dataset_at place pool)

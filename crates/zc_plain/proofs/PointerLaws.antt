@@ -1,4 +1,4 @@
--- The pointers of a dataset, once bytes were written into a file of it, and once a file of it was cut.
+-- The pointers of a dataset, once bytes were written into a file of it, and once a file of it was trimmed.
 use Rattle.std.proofs.Common.{◌≡◌, ℕ, zero, suc, ◌+◌, ◌-◌, ◌<◌, ◌≤◌, ◌&&◌, nat_lt, max, min, Bool, true, false, cond, List, [], ◌∷◌, take, length, Option, Some, Ok, refl, sym, ap, subst, ◌∙◌, ⊎_elim, arith}
 use Rattle.std.specs.Prelude.{slice_get, sum_by, count_by, remove, replicate}
 use Rattle.std.specs.Option.{option_map}
@@ -19,12 +19,12 @@ use Rattle.zc_plain.specs.declared.plain_pool.PlainPool.{PlainPool}
 use Rattle.zc_plain.specs.PlainPool.{blocks_of_size, block_at, is_made, is_hole, made_count, new_file, new_dataset, dataset_at, file_at, with_new_dataset, with_new_file, without_file, in_dataset, in_files, in_file, pointers_in}
 use Rattle.zc_plain.specs.Putting.{first_touched, touched_count}
 use Rattle.zc_plain.specs.Written.{touches, made_block, written_block, written}
-use Rattle.zc_plain.specs.Truncated.{is_cut, cut_block, truncated_block, truncated, is_inside}
+use Rattle.zc_plain.specs.Truncated.{is_trimmed, trimmed_block, truncated_block, truncated, is_inside}
 use Rattle.zc_plain.specs.IsPlain.{StandsAt, IsPlainFile, IsPlain}
-use Rattle.zc_plain.specs.Answer.{◌>>=◌, path_of, holes_touched, pointers_behind, refuse_end, refuse_pointers, room_in_file, most_pointers, answer}
+use Rattle.zc_plain.specs.Answer.{◌>>=◌, path_of, holes_touched, pointers_after, refuse_end, refuse_pointers, room_in_file, most_pointers, answer}
 use Rattle.zc_plain.specs.Promises.{HaveFewPointers}
 use Rattle.zc_plain.specs.declared.tally.Tally.{Tally}
-use Rattle.zc_plain.proofs.Together.{block_by_place, touched, untouched_before, untouched_behind}
+use Rattle.zc_plain.proofs.Together.{block_by_place, touched, untouched_before, untouched_after}
 use Rattle.zc_plain.proofs.Counted.{counted_push}
 use Rattle.zc_plain.proofs.NumberedLaws.{no_item, one_item, stood_or_new, stood_or_changed, stood_before_removal, skipped}
 use Rattle.zc_plain.proofs.Places.{dataset_there, file_there}
@@ -70,7 +70,7 @@ made_or_hole (Made entry index bytes) = refl
 blocks_all : (blocks : List PlainBlock) → each (length blocks) (λ k. block_at k blocks) ≡ blocks
 blocks_all blocks = sym (each_from_items (λ k. block_at k blocks) blocks (length blocks) Hole refl (λ k within. sym (block_by_place blocks k)))
 
--- behind the last there are holes, which aren't counted
+-- after the last there are holes, which aren't counted
 made_beyond : (blocks : List PlainBlock) (more : ℕ) → count_by is_made (each (length blocks + more) (λ k. block_at k blocks)) ≡ made_count blocks
 unfolding made_count
 made_beyond blocks zero = ap (λ (n : ℕ). count_by is_made (each n (λ k. block_at k blocks))) (same (length blocks)) ∙ ap (count_by is_made) (blocks_all blocks)
@@ -156,21 +156,21 @@ pointers_once_written number offset bytes file plain some =
     count_made (written_block number offset bytes file.blocks) (λ k. block_at k file.blocks) first last
     (λ k before. kept_untouched number offset bytes file.blocks k (untouched_before offset (length bytes) k before))
     (λ k from until. made_touched number offset bytes file.blocks k (touched offset (length bytes) k some from until))
-    (λ k behind. kept_untouched number offset bytes file.blocks k (untouched_behind offset (length bytes) k behind)) n
+    (λ k behind. kept_untouched number offset bytes file.blocks k (untouched_after offset (length bytes) k behind)) n
     ∙ ap (λ (m : ℕ). count_by is_made (each n (λ k. block_at k file.blocks)) + count_by is_hole (each m (λ k. block_at (first + k) file.blocks))) count
     ∙ ap (λ (m : ℕ). m + count_by is_hole (each (touched_count offset (length bytes)) (λ k. block_at (first + k) file.blocks))) (made_from file.blocks n (omega (arith, plain.blocks)))
 
 -- a block of a file whose size was set is made where it was
 same_made : (number old size : ℕ) (blocks : List PlainBlock) (k : ℕ) → is_made (truncated_block number old size blocks k) ≡ is_made (block_at k blocks)
-unfolding truncated_block cut_block
+unfolding truncated_block trimmed_block
 same_made number old size blocks k =
     ⊎_elim
-    (λ (is : is_cut old size blocks k ≡ true).
+    (λ (is : is_trimmed old size blocks k ≡ true).
     let parts = and_parts (nat_lt size old) (is_inside size k && is_made (block_at k blocks)) is in
     let inner = and_parts (is_inside size k) (is_made (block_at k blocks)) parts.1 in
     rw is (sym inner.1))
-    (λ (is : is_cut old size blocks k ≡ false). rw is refl)
-    (cases_Bool (is_cut old size blocks k))
+    (λ (is : is_trimmed old size blocks k ≡ false). rw is refl)
+    (cases_Bool (is_trimmed old size blocks k))
 
 -- so as many are made, up to any index
 count_same : (g f : ℕ → PlainBlock) → ((k : ℕ) → is_made (g k) ≡ is_made (f k)) → (n : ℕ) → count_by is_made (each n g) ≡ count_by is_made (each n f)
@@ -209,7 +209,7 @@ pointers_changed dataset file path change pool found =
 
 -- the pointers that a write is measured by are those of the dataset once the bytes are written
 pub pointers_are : (number : ℕ) (dataset file : List ℕ) (offset : ℕ) (bytes : List ℕ) (path : Path) (pool : PlainPool) → IsPlain pool → path_of dataset file pool ≡ Ok path → 0 < length bytes
-    → pointers_in (dataset_at path.dataset (in_file path (written number offset bytes) pool)) ≡ pointers_behind offset (length bytes) path pool
+    → pointers_in (dataset_at path.dataset (in_file path (written number offset bytes) pool)) ≡ pointers_after offset (length bytes) path pool
 pointers_are number dataset file offset bytes path pool plain found some =
     omega (arith, pointers_changed dataset file path (written number offset bytes) pool found, pointers_once_written number offset bytes (file_at path pool) (plain_file_at pool path plain) some)
 
@@ -227,8 +227,8 @@ pointers_not_raised number size dataset file path pool found =
     omega (arith, pointers_changed dataset file path (truncated number size) pool found, pointers_once_truncated number size (file_at path pool))
 
 -- the dataset at a path of which a file is changed
-dataset_behind : (path : Path) (change : PlainFile → PlainFile) (pool : PlainPool) (dataset : PlainDataset) → StandsAt pool.datasets path.dataset dataset → dataset_at path.dataset (in_file path change pool) ≡ in_files path.file change dataset
-dataset_behind path change pool dataset stands =
+dataset_after : (path : Path) (change : PlainFile → PlainFile) (pool : PlainPool) (dataset : PlainDataset) → StandsAt pool.datasets path.dataset dataset → dataset_at path.dataset (in_file path change pool) ≡ in_files path.file change dataset
+dataset_after path change pool dataset stands =
     dataset_there (in_file path change pool) path.dataset (in_files path.file change dataset)
     (get_of_change_at (in_files path.file change) path.dataset pool.datasets ∙ ap (option_map (in_files path.file change)) stands)
 
@@ -277,7 +277,7 @@ few_once_put number tally pool dataset file offset bytes plain few = λ path fou
   λ full room free. few_in_dataset path.dataset (in_files path.file (written number offset bytes)) pool few
       (λ d stands.
       let some : 0 < length bytes = omega (arith, eqb-false (length bytes) 0 full) in
-      let is = ap (λ (x : PlainDataset). pointers_in x) (dataset_behind path (written number offset bytes) pool d stands) in
+      let is = ap (λ (x : PlainDataset). pointers_in x) (dataset_after path (written number offset bytes) pool d stands) in
       omega (arith, is, pointers_are number dataset file offset bytes path pool plain found some, room)),
 )
 
@@ -294,7 +294,7 @@ few_goal number tally pool (Fill dataset file offset len byte) plain few = few_o
 few_goal number tally pool (Truncate dataset file size) plain few = λ path found free.
     few_in_dataset path.dataset (in_files path.file (truncated number size)) pool few
     (λ d stands.
-    let is = ap (λ (x : PlainDataset). pointers_in x) (dataset_behind path (truncated number size) pool d stands) in
+    let is = ap (λ (x : PlainDataset). pointers_in x) (dataset_after path (truncated number size) pool d stands) in
     let was = ap (λ (x : PlainDataset). pointers_in x) (dataset_there pool path.dataset d stands) in
     omega (arith, is, was, pointers_not_raised number size dataset file path pool found, few path.dataset d stands))
 few_goal number tally pool (Read dataset file offset len) plain few = λ path found. few

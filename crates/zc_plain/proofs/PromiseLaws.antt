@@ -26,7 +26,7 @@ use Rattle.zc_plain.specs.Written.{written}
 use Rattle.zc_plain.specs.Truncated.{truncated}
 use Rattle.zc_plain.specs.Charge.{with_blocks, charge_of}
 use Rattle.zc_plain.specs.Answer.{most_charge, dataset_place, dataset_of, path_of, blocks_of_command, counted, answer, settled}
-use Rattle.zc_plain.specs.History.{PlainState, is_waiting, reply_to, reply_at, reply_of, pool_behind, next_pool, tally_behind, next_tally, next_number, step}
+use Rattle.zc_plain.specs.History.{PlainState, is_waiting, reply_to, reply_at, reply_of, pool_after_command, next_pool, tally_after, next_tally, next_number, step}
 use Rattle.zc_plain.specs.IsPlain.{StandsAt, IsPlainFile, IsPlain, IsState}
 use Rattle.zc_plain.specs.Promises.{dataset_named, file_among, file_named, IsWritten, IsTruncated, AreBytesOf, FileBecame, UnlessCount, HasDone, Promises}
 use Rattle.zc_plain.proofs.Bytes.{bytes_from_each}
@@ -315,7 +315,7 @@ removed dataset file path pool plain found =
     (dataset_changed dataset path.dataset (without_file path.file) pool (λ d. refl) parts.0 ∙ ap (λ (d : PlainDataset). some_of (without_file path.file d)) same)
     ∙ file_went file path.file owner.0 it.0 (plain.datasets path.dataset owner.0 owner.1).numbered it.1 it.2
 
-acted : (number : ℕ) (tally : Tally) (pool : PlainPool) (command : Command) → IsPlain pool → HasDone pool (pool_behind number tally pool command) (reply_to number tally pool command) command
+acted : (number : ℕ) (tally : Tally) (pool : PlainPool) (command : Command) → IsPlain pool → HasDone pool (pool_after_command number tally pool command) (reply_to number tally pool command) command
 acted number tally pool (Mkds dataset) plain =
     by_command (Acted pool (Mkds dataset)) number tally pool (λ refusal. tt) (Mkds dataset)
     (λ missing. let none = dataset_missing dataset pool missing in (none, dataset_came dataset pool none))
@@ -379,7 +379,7 @@ kept old (entry.Ask session command) is =
       charge = λ _. no_command_lowers_charge number old.tally old.pool command;
       within = λ _ within.
           let same = limits_stay number old.tally old.pool command in
-          within_same (charge_of (tally_behind number old.tally old.pool command)) old.pool (pool_behind number old.tally old.pool command) same (stays_within number old.tally old.pool command within);
+          within_same (charge_of (tally_after number old.tally old.pool command)) old.pool (pool_after_command number old.tally old.pool command) same (stays_within number old.tally old.pool command within);
       pointers = λ few. pointers_stay_few number old.tally old.pool command is.plain few;
       limits = limits_stay number old.tally old.pool command;
       numbers = no_number_twice number old.tally old.pool command;
@@ -437,8 +437,8 @@ next_state_is old pool tally one pool_is tally_is =
     state_of p t n = record { pool = p; tally = t; entries = n }
 
 -- the promises where the reply, the pool and what is counted are told
-pub promises_behind : (old : PlainState) (pool : PlainPool) (tally : Tally) (reply : Option Reply) (one : Entry) → IsState old → reply ≡ reply_at (next_number old) old.tally old.pool one
+pub promises_after : (old : PlainState) (pool : PlainPool) (tally : Tally) (reply : Option Reply) (one : Entry) → IsState old → reply ≡ reply_at (next_number old) old.tally old.pool one
     → pool ≡ next_pool (next_number old) old.tally old.pool one → tally ≡ next_tally (next_number old) old.tally old.pool one → Promises old (record { pool = pool; tally = tally; entries = next_number old }) reply one
 unfolding reply_of
-promises_behind old pool tally reply one is told pool_is tally_is =
+promises_after old pool tally reply one is told pool_is tally_is =
     promises_hold old (record { pool = pool; tally = tally; entries = next_number old }) reply one is told (next_state_is old pool tally one pool_is tally_is)

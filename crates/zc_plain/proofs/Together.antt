@@ -13,11 +13,11 @@ use Rattle.zc_plain.specs.Written.{touches, made_block, written_block, written}
 use Rattle.zc_plain.specs.Putting.{grown, replaced, first_touched, touched_count, made_blocks}
 use Rattle.zc_plain.specs.IsPlain.{IsPlainFile}
 
--- a block behind the last is a hole
+-- a block after the last is a hole
 pub block_by_place : (blocks : List PlainBlock) (k : ℕ) → block_at k blocks ≡ get_or blocks k Hole
 block_by_place blocks k = unwrap_or-slice_get blocks k Hole
 
--- blocks with holes behind them have the blocks that they had
+-- blocks with holes after them have the blocks that they had
 pub grown_block : (count : ℕ) (blocks : List PlainBlock) (k : ℕ) → get_or (grown count blocks) k Hole ≡ block_at k blocks
 unfolding grown
 grown_block count blocks k =
@@ -47,9 +47,9 @@ replaced_before : (first : ℕ) (others blocks : List PlainBlock) (k : ℕ) → 
 unfolding replaced
 replaced_before first others blocks k fits before = grind (arith, places)
 
-replaced_behind : (first : ℕ) (others blocks : List PlainBlock) (k : ℕ) → first + length others ≤ length blocks → first + length others ≤ k → get_or (replaced first others blocks) k Hole ≡ get_or blocks k Hole
+replaced_after : (first : ℕ) (others blocks : List PlainBlock) (k : ℕ) → first + length others ≤ length blocks → first + length others ≤ k → get_or (replaced first others blocks) k Hole ≡ get_or blocks k Hole
 unfolding replaced
-replaced_behind first others blocks k fits behind = grind (arith, places)
+replaced_after first others blocks k fits behind = grind (arith, places)
 
 length_replaced : (first : ℕ) (others blocks : List PlainBlock) → first + length others ≤ length blocks → length (replaced first others blocks) ≡ length blocks
 unfolding replaced
@@ -67,8 +67,8 @@ untouched_before offset len k before =
     let ends : k * 4096 + 4096 ≤ offset = omega arith in
     rw (le-ltb offset (k * 4096 + 4096) ends) (and-false (nat_lt (k * 4096) (offset + len)))
 
-pub untouched_behind : (offset len k : ℕ) → blocks_of_size (offset + len) ≤ k → touches offset len k ≡ false
-untouched_behind offset len k behind =
+pub untouched_after : (offset len k : ℕ) → blocks_of_size (offset + len) ≤ k → touches offset len k ≡ false
+untouched_after offset len k behind =
     let begins : offset + len ≤ k * 4096 = omega arith in
     rw (le-ltb (k * 4096) (offset + len) begins) refl
 
@@ -96,8 +96,8 @@ put_block number offset bytes blocks k some =
     ∙ ap (made_block number offset bytes blocks) place
     ∙ sym (rw is_touched refl))
     (λ (behind : first + length made ≤ k).
-    replaced_behind first made all k fits behind ∙ grown_block (first + length made) blocks k
-    ∙ sym (rw (untouched_behind offset (length bytes) k (omega arith)) refl))
+    replaced_after first made all k fits behind ∙ grown_block (first + length made) blocks k
+    ∙ sym (rw (untouched_after offset (length bytes) k (omega arith)) refl))
     (cases_lt k (first + length made)))
     (cases_lt k first)
 

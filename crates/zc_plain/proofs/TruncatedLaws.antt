@@ -9,7 +9,7 @@ use Rattle.zc_plain.specs.declared.plain_pool.PlainBlock.{PlainBlock}
 use Rattle.zc_plain.specs.declared.plain_pool.PlainBlock.TheVariants.{Hole, Made}
 use Rattle.zc_plain.specs.declared.plain_pool.PlainFile.{PlainFile}
 use Rattle.zc_plain.specs.PlainPool.{blocks_of_size, bytes_of_block, block_at, byte_of, is_made}
-use Rattle.zc_plain.specs.Truncated.{is_inside, is_cut, kept_in, cut_block, truncated_block, truncated}
+use Rattle.zc_plain.specs.Truncated.{is_inside, is_trimmed, kept_in, trimmed_block, truncated_block, truncated}
 use Rattle.zc_plain.specs.IsPlain.{IsPlainFile}
 use Rattle.zc_plain.proofs.Bytes.{zero_of_zeros, length_zeros}
 use Rattle.zc_plain.proofs.Together.{block_by_place}
@@ -45,37 +45,37 @@ block_past_truncated number size file k past =
     let f = truncated_block number file.size size file.blocks in
     block_by_place (each (blocks_of_size size) f) k ∙ get_or_past (each (blocks_of_size size) f) k Hole (rw length_each past)
 
-pub made_where_cut : (number old size : ℕ) (blocks : List PlainBlock) (k : ℕ) → is_cut old size blocks k ≡ true → truncated_block number old size blocks k ≡ cut_block number size blocks k
+pub made_where_trimmed : (number old size : ℕ) (blocks : List PlainBlock) (k : ℕ) → is_trimmed old size blocks k ≡ true → truncated_block number old size blocks k ≡ trimmed_block number size blocks k
 unfolding truncated_block
-made_where_cut number old size blocks k is = rw is refl
+made_where_trimmed number old size blocks k is = rw is refl
 
-pub kept_where_uncut : (number old size : ℕ) (blocks : List PlainBlock) (k : ℕ) → is_cut old size blocks k ≡ false → truncated_block number old size blocks k ≡ block_at k blocks
+pub kept_where_uncut : (number old size : ℕ) (blocks : List PlainBlock) (k : ℕ) → is_trimmed old size blocks k ≡ false → truncated_block number old size blocks k ≡ block_at k blocks
 unfolding truncated_block
 kept_where_uncut number old size blocks k is = rw is refl
 
--- where a file is cut
-pub cut_lies : (old size : ℕ) (blocks : List PlainBlock) (k : ℕ) → is_cut old size blocks k ≡ true → (size < old) × (k * 4096 < size) × (size < k * 4096 + 4096)
-cut_lies old size blocks k is =
+-- where a file is trimmed
+pub trimmed_lies : (old size : ℕ) (blocks : List PlainBlock) (k : ℕ) → is_trimmed old size blocks k ≡ true → (size < old) × (k * 4096 < size) × (size < k * 4096 + 4096)
+trimmed_lies old size blocks k is =
     let parts = and_parts (nat_lt size old) (is_inside size k && is_made (block_at k blocks)) is in
     let inner = and_parts (is_inside size k) (is_made (block_at k blocks)) parts.1 in
     let sides = and_parts (nat_lt (k * 4096) size) (nat_lt size (k * 4096 + 4096)) inner.0 in
     (ltb-true size old parts.0, ltb-true (k * 4096) size sides.0, ltb-true size (k * 4096 + 4096) sides.1)
 
--- the zeros of a cut block end where it does
+-- the zeros of a trimmed block end where it does
 zeros_fit : (k size : ℕ) → size < k * 4096 + 4096 → kept_in k size + length {A = ℕ} (replicate (4096 - kept_in k size) 0) ≤ 4096
 zeros_fit k size ends = let many = length-replicate {A = ℕ} (4096 - kept_in k size) 0 in omega (arith, many)
 
--- a block that is cut has as many bytes as before
-length_of_cut : (number size : ℕ) (blocks : List PlainBlock) (k : ℕ) → length (bytes_of_block (block_at k blocks)) ≡ 4096 → size < k * 4096 + 4096 → length (bytes_of_block (cut_block number size blocks k)) ≡ 4096
-unfolding cut_block
-length_of_cut number size blocks k whole ends =
+-- a block that is trimmed has as many bytes as before
+length_of_trimmed : (number size : ℕ) (blocks : List PlainBlock) (k : ℕ) → length (bytes_of_block (block_at k blocks)) ≡ 4096 → size < k * 4096 + 4096 → length (bytes_of_block (trimmed_block number size blocks k)) ≡ 4096
+unfolding trimmed_block
+length_of_trimmed number size blocks k whole ends =
     length_edited (bytes_of_block (block_at k blocks)) (kept_in k size) (replicate (4096 - kept_in k size) 0) (omega (arith, whole, zeros_fit k size ends)) ∙ whole
 
 -- its bytes from the size on are 0
-byte_past_cut : (number size : ℕ) (blocks : List PlainBlock) (k j : ℕ) → length (bytes_of_block (block_at k blocks)) ≡ 4096 → size < k * 4096 + 4096 → j < 4096 → size ≤ k * 4096 + j
-    → get_or (bytes_of_block (cut_block number size blocks k)) j 0 ≡ 0
-unfolding cut_block
-byte_past_cut number size blocks k j whole ends inside past =
+byte_past_trimmed : (number size : ℕ) (blocks : List PlainBlock) (k j : ℕ) → length (bytes_of_block (block_at k blocks)) ≡ 4096 → size < k * 4096 + 4096 → j < 4096 → size ≤ k * 4096 + j
+    → get_or (bytes_of_block (trimmed_block number size blocks k)) j 0 ≡ 0
+unfolding trimmed_block
+byte_past_trimmed number size blocks k j whole ends inside past =
     let kept = kept_in k size in
     let zeros_there : List ℕ = replicate (4096 - kept) 0 in
     let fits : kept + length zeros_there ≤ length (bytes_of_block (block_at k blocks)) = omega (arith, whole, zeros_fit k size ends) in
@@ -84,10 +84,10 @@ byte_past_cut number size blocks k j whole ends inside past =
     ∙ get_or-replicate (4096 - kept) (j - kept) 0 0 (omega arith)
 
 -- and those before are as they were
-byte_before_cut : (number size : ℕ) (blocks : List PlainBlock) (k j : ℕ) → length (bytes_of_block (block_at k blocks)) ≡ 4096 → size < k * 4096 + 4096 → k * 4096 + j < size
-    → get_or (bytes_of_block (cut_block number size blocks k)) j 0 ≡ get_or (bytes_of_block (block_at k blocks)) j 0
-unfolding cut_block
-byte_before_cut number size blocks k j whole ends before =
+byte_before_trimmed : (number size : ℕ) (blocks : List PlainBlock) (k j : ℕ) → length (bytes_of_block (block_at k blocks)) ≡ 4096 → size < k * 4096 + 4096 → k * 4096 + j < size
+    → get_or (bytes_of_block (trimmed_block number size blocks k)) j 0 ≡ get_or (bytes_of_block (block_at k blocks)) j 0
+unfolding trimmed_block
+byte_before_trimmed number size blocks k j whole ends before =
     let kept = kept_in k size in
     let zeros_there : List ℕ = replicate (4096 - kept) 0 in
     let fits : kept + length zeros_there ≤ length (bytes_of_block (block_at k blocks)) = omega (arith, whole, zeros_fit k size ends) in
@@ -104,23 +104,23 @@ byte_before_size number size file i plain before =
     let k = i / 4096 in
     let j = i % 4096 in
     ⊎_elim
-    (λ (is : is_cut file.size size file.blocks k ≡ true).
-    let lies = cut_lies file.size size file.blocks k is in
-    by_block (truncated number size file) i (cut_block number size file.blocks k) (block_of_truncated number size file k (omega arith) ∙ made_where_cut number file.size size file.blocks k is)
-    ∙ byte_before_cut number size file.blocks k j (plain.whole k) lies.2 (omega arith)
+    (λ (is : is_trimmed file.size size file.blocks k ≡ true).
+    let lies = trimmed_lies file.size size file.blocks k is in
+    by_block (truncated number size file) i (trimmed_block number size file.blocks k) (block_of_truncated number size file k (omega arith) ∙ made_where_trimmed number file.size size file.blocks k is)
+    ∙ byte_before_trimmed number size file.blocks k j (plain.whole k) lies.2 (omega arith)
     ∙ sym (by_block file i (block_at k file.blocks) refl))
-    (λ (is : is_cut file.size size file.blocks k ≡ false).
+    (λ (is : is_trimmed file.size size file.blocks k ≡ false).
     by_block (truncated number size file) i (block_at k file.blocks) (block_of_truncated number size file k (omega arith) ∙ kept_where_uncut number file.size size file.blocks k is)
     ∙ sym (by_block file i (block_at k file.blocks) refl))
-    (cases_Bool (is_cut file.size size file.blocks k))
+    (cases_Bool (is_trimmed file.size size file.blocks k))
 
 -- a hole has zeros alone
 zero_in_hole : (block : PlainBlock) (j : ℕ) → is_made block ≡ false → get_or (bytes_of_block block) j 0 ≡ 0
 zero_in_hole Hole j is = zero_of_zeros j
 zero_in_hole (Made entry index bytes) j is = cc
 
--- a byte that is past the size, in the block inside which the size lies, where the file isn't cut there
-zero_where_uncut : (size : ℕ) (file : PlainFile) (i : ℕ) → IsPlainFile file → size ≤ i → i / 4096 < blocks_of_size size → is_cut file.size size file.blocks (i / 4096) ≡ false
+-- a byte that is past the size, in the block inside which the size lies, where the file isn't trimmed there
+zero_where_uncut : (size : ℕ) (file : PlainFile) (i : ℕ) → IsPlainFile file → size ≤ i → i / 4096 < blocks_of_size size → is_trimmed file.size size file.blocks (i / 4096) ≡ false
     → byte_of file i ≡ 0
 zero_where_uncut size file i plain past within is =
     let k = i / 4096 in
@@ -131,8 +131,8 @@ zero_where_uncut size file i plain past within is =
     let first : nat_lt size file.size ≡ true = is_less size file.size longer in
     let low : nat_lt (k * 4096) size ≡ true = is_less (k * 4096) size (omega arith) in
     let high : nat_lt size (k * 4096 + 4096) ≡ true = is_less size (k * 4096 + 4096) (omega arith) in
-    let cut : is_cut file.size size file.blocks k ≡ true = rw (first, low, high, made) refl in
-    let both : true ≡ false = sym cut ∙ is in
+    let trimmed : is_trimmed file.size size file.blocks k ≡ true = rw (first, low, high, made) refl in
+    let both : true ≡ false = sym trimmed ∙ is in
     cc)
     (λ (hole : is_made (block_at k file.blocks) ≡ false).
     by_block file i (block_at k file.blocks) refl ∙ zero_in_hole (block_at k file.blocks) (i % 4096) hole)
@@ -153,15 +153,15 @@ zero_past_size number size file i plain past =
     ⊎_elim
     (λ (within : k < blocks_of_size size).
     ⊎_elim
-    (λ (is : is_cut file.size size file.blocks k ≡ true).
-    let lies = cut_lies file.size size file.blocks k is in
-    by_block (truncated number size file) i (cut_block number size file.blocks k) (block_of_truncated number size file k within ∙ made_where_cut number file.size size file.blocks k is)
-    ∙ byte_past_cut number size file.blocks k (i % 4096) (plain.whole k) lies.2 (omega arith) (omega arith))
-    (λ (is : is_cut file.size size file.blocks k ≡ false).
+    (λ (is : is_trimmed file.size size file.blocks k ≡ true).
+    let lies = trimmed_lies file.size size file.blocks k is in
+    by_block (truncated number size file) i (trimmed_block number size file.blocks k) (block_of_truncated number size file k within ∙ made_where_trimmed number file.size size file.blocks k is)
+    ∙ byte_past_trimmed number size file.blocks k (i % 4096) (plain.whole k) lies.2 (omega arith) (omega arith))
+    (λ (is : is_trimmed file.size size file.blocks k ≡ false).
     by_block (truncated number size file) i (block_at k file.blocks) (block_of_truncated number size file k within ∙ kept_where_uncut number file.size size file.blocks k is)
     ∙ sym (by_block file i (block_at k file.blocks) refl)
     ∙ zero_where_uncut size file i plain past within is)
-    (cases_Bool (is_cut file.size size file.blocks k)))
+    (cases_Bool (is_trimmed file.size size file.blocks k)))
     (λ (behind : blocks_of_size size ≤ k).
     by_block (truncated number size file) i Hole (block_past_truncated number size file k behind) ∙ zero_of_zeros (i % 4096))
     (cases_lt k (blocks_of_size size))
@@ -173,12 +173,12 @@ whole_truncated number size file k plain =
     (λ (within : k < blocks_of_size size).
     ap (λ (block : PlainBlock). length (bytes_of_block block)) (block_of_truncated number size file k within)
     ∙ ⊎_elim
-    (λ (is : is_cut file.size size file.blocks k ≡ true).
-    let lies = cut_lies file.size size file.blocks k is in
-    ap (λ (block : PlainBlock). length (bytes_of_block block)) (made_where_cut number file.size size file.blocks k is) ∙ length_of_cut number size file.blocks k (plain.whole k) lies.2)
-    (λ (is : is_cut file.size size file.blocks k ≡ false).
+    (λ (is : is_trimmed file.size size file.blocks k ≡ true).
+    let lies = trimmed_lies file.size size file.blocks k is in
+    ap (λ (block : PlainBlock). length (bytes_of_block block)) (made_where_trimmed number file.size size file.blocks k is) ∙ length_of_trimmed number size file.blocks k (plain.whole k) lies.2)
+    (λ (is : is_trimmed file.size size file.blocks k ≡ false).
     ap (λ (block : PlainBlock). length (bytes_of_block block)) (kept_where_uncut number file.size size file.blocks k is) ∙ plain.whole k)
-    (cases_Bool (is_cut file.size size file.blocks k)))
+    (cases_Bool (is_trimmed file.size size file.blocks k)))
     (λ (past : blocks_of_size size ≤ k). ap (λ (block : PlainBlock). length (bytes_of_block block)) (block_past_truncated number size file k past) ∙ length_zeros)
     (cases_lt k (blocks_of_size size))
 

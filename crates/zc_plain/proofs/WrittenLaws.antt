@@ -4,7 +4,7 @@ use Rattle.std.proofs.lemmas.Bool.{cases_lt, cases_Bool, and_parts, ltb-true}
 use Rattle.std.proofs.lemmas.List.{get_or_past, get_or-take, get_or-drop, length-take, length-drop}
 use Rattle.zc_num.specs.Words.{each}
 use Rattle.zc_num.proofs.Each.{length_each, item_of_each, each_from_items, each_same}
-use Rattle.zc_num.proofs.Edits.{length_edited, byte_before_edit, byte_in_edit, byte_behind_edit}
+use Rattle.zc_num.proofs.Edits.{length_edited, byte_before_edit, byte_in_edit, byte_after_edit}
 use Rattle.zc_plain.specs.declared.plain_pool.PlainBlock.{PlainBlock}
 use Rattle.zc_plain.specs.declared.plain_pool.PlainBlock.TheVariants.{Hole}
 use Rattle.zc_plain.specs.declared.plain_pool.PlainFile.{PlainFile}
@@ -43,7 +43,7 @@ byte_in_made number offset bytes blocks index j whole inside from until =
     ∙ get_or-drop skipped bytes (j - start) 0
     ∙ ap (λ (k : ℕ). get_or bytes k 0) place
 
--- and those before and behind
+-- and those before and after
 byte_before_made : (number offset : ℕ) (bytes : List ℕ) (blocks : List PlainBlock) (index j : ℕ) → length (bytes_of_block (block_at index blocks)) ≡ 4096 → offset < index * 4096 + 4096
     → index * 4096 + j < offset → get_or (bytes_of_block (made_block number offset bytes blocks index)) j 0 ≡ get_or (bytes_of_block (block_at index blocks)) j 0
 unfolding made_block
@@ -51,12 +51,12 @@ byte_before_made number offset bytes blocks index j whole ends before =
     let fits : start_in index offset + length (part_in index offset bytes) ≤ length (bytes_of_block (block_at index blocks)) = omega (arith, part_fits index offset bytes ends) in
     byte_before_edit (bytes_of_block (block_at index blocks)) (start_in index offset) (part_in index offset bytes) j 0 fits (omega arith)
 
-byte_behind_made : (number offset : ℕ) (bytes : List ℕ) (blocks : List PlainBlock) (index j : ℕ) → length (bytes_of_block (block_at index blocks)) ≡ 4096 → offset < index * 4096 + 4096
+byte_after_made : (number offset : ℕ) (bytes : List ℕ) (blocks : List PlainBlock) (index j : ℕ) → length (bytes_of_block (block_at index blocks)) ≡ 4096 → offset < index * 4096 + 4096
     → offset + length bytes ≤ index * 4096 + j → get_or (bytes_of_block (made_block number offset bytes blocks index)) j 0 ≡ get_or (bytes_of_block (block_at index blocks)) j 0
 unfolding made_block
-byte_behind_made number offset bytes blocks index j whole ends behind =
+byte_after_made number offset bytes blocks index j whole ends behind =
     let fits : start_in index offset + length (part_in index offset bytes) ≤ length (bytes_of_block (block_at index blocks)) = omega (arith, part_fits index offset bytes ends) in
-    byte_behind_edit (bytes_of_block (block_at index blocks)) (start_in index offset) (part_in index offset bytes) j 0 fits (omega (arith, length_part index offset bytes))
+    byte_after_edit (bytes_of_block (block_at index blocks)) (start_in index offset) (part_in index offset bytes) j 0 fits (omega (arith, length_part index offset bytes))
 
 -- the blocks of the file with the bytes written
 pub block_of_written : (number offset : ℕ) (bytes : List ℕ) (file : PlainFile) (k : ℕ) → k < blocks_of_size (max file.size (offset + length bytes))
@@ -104,7 +104,7 @@ in_touched number offset bytes file i plain apart is =
     let ends : offset < k * 4096 + 4096 = ltb-true offset (k * 4096 + 4096) parts.1 in
     ⊎_elim
     (λ (before : i < offset). byte_before_made number offset bytes file.blocks k (i % 4096) (plain.whole k) ends (omega arith))
-    (λ (behind : offset + length bytes ≤ i). byte_behind_made number offset bytes file.blocks k (i % 4096) (plain.whole k) ends (omega arith))
+    (λ (behind : offset + length bytes ≤ i). byte_after_made number offset bytes file.blocks k (i % 4096) (plain.whole k) ends (omega arith))
     apart
 
 -- a byte is one of its block
@@ -113,13 +113,13 @@ by_byte : (number offset : ℕ) (bytes : List ℕ) (file : PlainFile) (i : ℕ) 
 unfolding byte_of
 by_byte number offset bytes file i block is same = ap (λ (b : PlainBlock). get_or (bytes_of_block b) (i % 4096) 0) is ∙ same
 
--- a byte behind all blocks is 0
-behind_all : (number offset : ℕ) (bytes : List ℕ) (file : PlainFile) (i : ℕ) → blocks_of_size (max file.size (offset + length bytes)) ≤ i / 4096 → byte_of (written number offset bytes file) i ≡ 0
+-- a byte after all blocks is 0
+after_all : (number offset : ℕ) (bytes : List ℕ) (file : PlainFile) (i : ℕ) → blocks_of_size (max file.size (offset + length bytes)) ≤ i / 4096 → byte_of (written number offset bytes file) i ≡ 0
 unfolding byte_of
-behind_all number offset bytes file i past =
+after_all number offset bytes file i past =
     ap (λ (block : PlainBlock). get_or (bytes_of_block block) (i % 4096) 0) (block_past_written number offset bytes file (i / 4096) past) ∙ zero_of_zeros (i % 4096)
 
--- every other byte is as it was; behind the old end it is 0
+-- every other byte is as it was; after the old end it is 0
 pub byte_not_written : (number offset : ℕ) (bytes : List ℕ) (file : PlainFile) (i : ℕ) → IsPlainFile file → (i < offset) ⊎ (offset + length bytes ≤ i) → byte_of (written number offset bytes file) i ≡ byte_of file i
 byte_not_written number offset bytes file i plain apart =
     let k = i / 4096 in
@@ -133,7 +133,7 @@ byte_not_written number offset bytes file i plain apart =
     ap (λ (block : PlainBlock). get_or (bytes_of_block block) (i % 4096) 0) (kept_where_untouched number offset bytes file.blocks k is))
     (cases_Bool (touches offset (length bytes) k))))
     (λ (past : blocks_of_size (max file.size (offset + length bytes)) ≤ k).
-    behind_all number offset bytes file i past ∙ sym (plain.zero_past i (omega arith)))
+    after_all number offset bytes file i past ∙ sym (plain.zero_past i (omega arith)))
     (cases_lt k (blocks_of_size (max file.size (offset + length bytes))))
 
 -- the size of the file with the bytes written

@@ -27,7 +27,7 @@ use Rattle.zc_plain.specs.declared.tally.Tally.{Tally}
 use Rattle.zc_plain.specs.PlainPool.{block_at, is_hole, made_count, dataset_at, file_at, in_dataset, in_file, with_new_dataset, with_new_file, without_dataset, without_file, pointers_in, bytes_from}
 use Rattle.zc_plain.specs.Putting.{first_touched, touched_count}
 use Rattle.zc_plain.specs.Written.{written}
-use Rattle.zc_plain.specs.Truncated.{is_cut, truncated}
+use Rattle.zc_plain.specs.Truncated.{is_trimmed, truncated}
 use Rattle.zc_plain.specs.Charge.{blocks_made, with_blocks, charge_of}
 
 -- the one test and then the other, which goes on with what the first found
@@ -132,8 +132,8 @@ unfoldable pub holes_touched : ℕ → ℕ → List PlainBlock → ℕ
 holes_touched offset len blocks = count_by is_hole (each (touched_count offset len) (λ k. block_at (first_touched offset + k) blocks))
 
 -- the pointers of the dataset once a block stands wherever the bytes touch one
-abbrev pub pointers_behind : ℕ → ℕ → Path → PlainPool → ℕ
-pointers_behind offset len path pool = pointers_in (dataset_at path.dataset pool) + holes_touched offset len (file_at path pool).blocks
+abbrev pub pointers_after : ℕ → ℕ → Path → PlainPool → ℕ
+pointers_after offset len path pool = pointers_in (dataset_at path.dataset pool) + holes_touched offset len (file_at path pool).blocks
 
 -- refused where the file would end past its limit
 abbrev pub refuse_end : ℕ → PlainPool → Result (Unit {0}) Refusal
@@ -152,7 +152,7 @@ refuse_charge blocks tally pool =
 unfoldable pub room_in_file : ℕ → ℕ → Path → PlainPool → Result (Unit {0}) Refusal
 room_in_file offset len path pool = do
   _ ← refuse_end (offset + len) pool
-  refuse_pointers (pointers_behind offset len path pool) pool
+  refuse_pointers (pointers_after offset len path pool) pool
 
 -- bytes, of which there are some, stand at the offset of the file at the path
 unfoldable pub put_some : ℕ → Path → ℕ → List ℕ → Tally → PlainPool → Result (Reply × PlainPool) Refusal
@@ -175,17 +175,17 @@ write number dataset file offset bytes tally pool = do
 unfoldable pub fill : ℕ → List ℕ → List ℕ → ℕ → ℕ → ℕ → Tally → PlainPool → Result (Reply × PlainPool) Refusal
 fill number dataset file offset len byte tally pool = write number dataset file offset (replicate len byte) tally pool
 
--- the block of the file at the path in which it is cut, made now, where there is one
-abbrev pub blocks_cut : Tally → ℕ → Path → PlainPool → List MadeBlock
-blocks_cut tally size path pool =
-    if is_cut (file_at path pool).size size (file_at path pool).blocks (size / 4096) then blocks_made tally (dataset_at path.dataset pool).id (file_at path pool).id (size / 4096) 1 else []
+-- the block of the file at the path in which it is trimmed, made now, where there is one
+abbrev pub blocks_trimmed : Tally → ℕ → Path → PlainPool → List MadeBlock
+blocks_trimmed tally size path pool =
+    if is_trimmed (file_at path pool).size size (file_at path pool).blocks (size / 4096) then blocks_made tally (dataset_at path.dataset pool).id (file_at path pool).id (size / 4096) 1 else []
 
 -- the size of a file is set
 unfoldable pub truncate : ℕ → List ℕ → List ℕ → ℕ → Tally → PlainPool → Result (Reply × PlainPool) Refusal
 truncate number dataset file size tally pool = do
   path ← path_of dataset file pool
   _ ← refuse_end size pool
-  _ ← refuse_charge (blocks_cut tally size path pool) tally pool
+  _ ← refuse_charge (blocks_trimmed tally size path pool) tally pool
   Ok (Done, in_file path (truncated number size) pool)
 
 -- the bytes from the offset on
@@ -201,7 +201,7 @@ stat dataset file pool = do
   path ← path_of dataset file pool
   Ok (Size (file_at path pool).size (made_count (file_at path pool).blocks), pool)
 
--- behind the names each command has its own refusals
+-- after the names each command has its own refusals
 abbrev pub named_answer : ℕ → Tally → PlainPool → Command → Result (Reply × PlainPool) Refusal
 named_answer number tally pool (Mkds dataset) = mkds dataset pool
 named_answer number tally pool (Rmds dataset) = rmds dataset pool
@@ -239,12 +239,12 @@ blocks_of_command tally pool (Create dataset file) = []
 blocks_of_command tally pool (Remove dataset file) = []
 blocks_of_command tally pool (Write dataset file offset bytes) = blocks_put tally offset (length bytes) dataset file pool
 blocks_of_command tally pool (Fill dataset file offset len byte) = blocks_put tally offset len dataset file pool
-blocks_of_command tally pool (Truncate dataset file size) = blocks_on (path_of dataset file pool) (λ path. blocks_cut tally size path pool)
+blocks_of_command tally pool (Truncate dataset file size) = blocks_on (path_of dataset file pool) (λ path. blocks_trimmed tally size path pool)
 blocks_of_command tally pool (Read dataset file offset len) = []
 blocks_of_command tally pool (Stat dataset file) = []
 blocks_of_command tally pool Commit = []
 
--- what is counted behind an answer: a refusal makes no block
+-- what is counted after an answer: a refusal makes no block
 abbrev pub counted : Tally → List MadeBlock → Result (Reply × PlainPool) Refusal → Tally
 counted tally blocks (Ok done) = with_blocks blocks tally
 counted tally blocks (Err refusal) = tally

@@ -1,6 +1,6 @@
 -- The charge of a pool: the blocks that the last finished group holds, and those that were made since.
 --
--- Blocks are made in the files, and the same block made twice behind as many seals is charged once.
+-- Blocks are made in the files, and the same block made twice after as many seals is charged once.
 use Rattle.std.specs.Prelude.{ℕ, ◌+◌, ◌==◌, ◌&&◌, Bool, nat_le, List, [], ◌∷◌, ◌++◌, length, fold, filter, flat_map, Option, Some, None, if◌then◌else◌}
 use Rattle.std.specs.List.{list_any}
 use Rattle.zc_num.specs.Words.{each, found_from}
@@ -37,7 +37,7 @@ is_stamp a b = (a.0 == b.0) && (a.1 == b.1)
 unfoldable pub held_by : PlainPool → ℕ
 held_by pool = length (with_each is_stamp [] (stamps_of pool))
 
--- two blocks are one of one file, made behind as many seals
+-- two blocks are one of one file, made after as many seals
 abbrev pub is_block : MadeBlock → MadeBlock → Bool
 is_block a b = (a.seals == b.seals) && ((a.dataset == b.dataset) && ((a.file == b.file) && (a.block == b.block)))
 
@@ -62,20 +62,20 @@ abbrev pub with_seal : ℕ → Tally → Tally
 with_seal group tally = record tally { sealed = tally.sealed ++ group ∷ [] }
 
 -- how many seals there were up to that of the group; none where it was never sealed
-abbrev pub seals_behind : Option ℕ → ℕ
-seals_behind None = 0
-seals_behind (Some place) = place + 1
+abbrev pub seals_after : Option ℕ → ℕ
+seals_after None = 0
+seals_after (Some place) = place + 1
 
 unfoldable pub seals_up_to : ℕ → List ℕ → ℕ
-seals_up_to group sealed = seals_behind (found_from (λ (one : ℕ). one == group) 0 sealed)
+seals_up_to group sealed = seals_after (found_from (λ (one : ℕ). one == group) 0 sealed)
 
--- the block was made behind so many seals or more
-abbrev pub is_behind : ℕ → MadeBlock → Bool
-is_behind seals block = nat_le seals block.seals
+-- the block was made after so many seals or more
+abbrev pub is_after : ℕ → MadeBlock → Bool
+is_after seals block = nat_le seals block.seals
 
--- what is counted once the group is finished: what it holds, and the blocks that were made behind its seal
+-- what is counted once the group is finished: what it holds, and the blocks that were made after its seal
 unfoldable pub with_finish : ℕ → ℕ → Tally → Tally
-with_finish group held tally = record tally { held = held; made = filter (is_behind (seals_up_to group tally.sealed)) tally.made }
+with_finish group held tally = record tally { held = held; made = filter (is_after (seals_up_to group tally.sealed)) tally.made }
 
 -- the charge
 abbrev pub charge_of : Tally → ℕ

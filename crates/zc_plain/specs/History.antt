@@ -11,10 +11,10 @@ use Rattle.zc_plain.specs.declared.entry.Entry.TheVariants.{Ask, Answer, Seal, F
 use Rattle.zc_command.specs.declared.refusal.Refusal.{Refusal}
 use Rattle.zc_plain.specs.declared.tally.MadeBlock.{MadeBlock}
 use Rattle.zc_plain.specs.declared.tally.Tally.{Tally}
-use Rattle.zc_plain.specs.Charge.{is_block, with_each, tally_of, with_seal, seals_up_to, is_behind, with_finish, charge_of}
+use Rattle.zc_plain.specs.Charge.{is_block, with_each, tally_of, with_seal, seals_up_to, is_after, with_finish, charge_of}
 use Rattle.zc_plain.specs.Answer.{answer, settled, blocks_of_command, counted}
 
--- a pool behind so many entries of its history, and what its charge is counted from
+-- a pool after so many entries of its history, and what its charge is counted from
 pub record PlainState : Type 0 where
   pub pool : PlainPool
   pub tally : Tally
@@ -38,13 +38,13 @@ is_waiting Commit = true
 abbrev pub reply_to : ℕ → Tally → PlainPool → Command → Option Reply
 reply_to number tally pool command = if is_waiting command then None else Some (settled pool (answer number tally pool command)).0
 
--- the pool behind the command
-abbrev pub pool_behind : ℕ → Tally → PlainPool → Command → PlainPool
-pool_behind number tally pool command = (settled pool (answer number tally pool command)).1
+-- the pool after the command
+abbrev pub pool_after_command : ℕ → Tally → PlainPool → Command → PlainPool
+pool_after_command number tally pool command = (settled pool (answer number tally pool command)).1
 
--- what is counted behind the command
-abbrev pub tally_behind : ℕ → Tally → PlainPool → Command → Tally
-tally_behind number tally pool command = counted tally (blocks_of_command tally pool command) (answer number tally pool command)
+-- what is counted after the command
+abbrev pub tally_after : ℕ → Tally → PlainPool → Command → Tally
+tally_after number tally pool command = counted tally (blocks_of_command tally pool command) (answer number tally pool command)
 
 -- the reply to the entry with the number
 abbrev pub reply_at : ℕ → Tally → PlainPool → Entry → Option Reply
@@ -53,16 +53,16 @@ reply_at number tally pool (Answer session reply) = None
 reply_at number tally pool (Seal group) = None
 reply_at number tally pool (Finish group held) = None
 
--- the pool behind the entry with the number
+-- the pool after the entry with the number
 abbrev pub next_pool : ℕ → Tally → PlainPool → Entry → PlainPool
-next_pool number tally pool (Ask session command) = pool_behind number tally pool command
+next_pool number tally pool (Ask session command) = pool_after_command number tally pool command
 next_pool number tally pool (Answer session reply) = pool
 next_pool number tally pool (Seal group) = pool
 next_pool number tally pool (Finish group held) = pool
 
--- what is counted behind the entry with the number
+-- what is counted after the entry with the number
 abbrev pub next_tally : ℕ → Tally → PlainPool → Entry → Tally
-next_tally number tally pool (Ask session command) = tally_behind number tally pool command
+next_tally number tally pool (Ask session command) = tally_after number tally pool command
 next_tally number tally pool (Answer session reply) = tally
 next_tally number tally pool (Seal group) = with_seal group tally
 next_tally number tally pool (Finish group held) = with_finish group held tally
@@ -75,7 +75,7 @@ next_number state = state.entries + 1
 unfoldable pub reply_of : PlainState → Entry → Option Reply
 reply_of state entry = reply_at (next_number state) state.tally state.pool entry
 
--- the state behind one more entry
+-- the state after one more entry
 unfoldable pub step : PlainState → Entry → PlainState
 step state entry =
     record { pool = next_pool (next_number state) state.tally state.pool entry; tally = next_tally (next_number state) state.tally state.pool entry; entries = next_number state }
@@ -84,15 +84,15 @@ step state entry =
 abbrev pub begun : PlainPool → PlainState
 begun pool = record { pool = pool; tally = tally_of pool; entries = 0 }
 
--- the state behind the entries of a history, from the first on
+-- the state after the entries of a history, from the first on
 abbrev pub state_after : PlainPool → List Entry → PlainState
 state_after start history = fold step (begun start) history
 
--- the pool behind the first m entries of a history
+-- the pool after the first m entries of a history
 abbrev pub pool_after : PlainPool → List Entry → ℕ → PlainPool
 pool_after start history m = (state_after start (take m history)).pool
 
--- the charge behind the first m entries of a history
+-- the charge after the first m entries of a history
 abbrev pub charge_after : PlainPool → List Entry → ℕ → ℕ
 charge_after start history m = charge_of (state_after start (take m history)).tally
 
@@ -103,7 +103,7 @@ MeetsConditions (Answer session reply) = Unit {0}
 MeetsConditions (Seal group) = Unit {0}
 MeetsConditions (Finish group held) = held ≤ 2 ^ 62
 
--- What a call answered to one more entry is its reply, and the state is the one behind it, unless memory was wanting: then nothing
+-- What a call answered to one more entry is its reply, and the state is the one after it, unless memory was wanting: then nothing
 -- has changed.
 abbrev pub Steps : PlainState → PlainState → Result (Option Reply) AllocError → Entry → Type 0
 Steps old new (Ok reply) entry = (reply ≡ reply_of old entry) × (new ≡ step old entry)
@@ -114,17 +114,17 @@ abbrev pub unless_refused : List MadeBlock → Result (Reply × PlainPool) Refus
 unless_refused blocks (Ok done) = blocks
 unless_refused blocks (Err refusal) = []
 
--- the blocks that an entry makes behind a state
+-- the blocks that an entry makes after a state
 abbrev pub blocks_of_entry : PlainState → Entry → List MadeBlock
 blocks_of_entry state (Ask session command) = unless_refused (blocks_of_command state.tally state.pool command) (answer (next_number state) state.tally state.pool command)
 blocks_of_entry state (Answer session reply) = []
 blocks_of_entry state (Seal group) = []
 blocks_of_entry state (Finish group held) = []
 
--- the blocks that the entries of a history make behind a state, in their order and with repeats
-abbrev pub blocks_behind : PlainState → List Entry → List MadeBlock
-blocks_behind state [] = []
-blocks_behind state (entry ∷ history) = blocks_of_entry state entry ++ blocks_behind (step state entry) history
+-- the blocks that the entries of a history make after a state, in their order and with repeats
+abbrev pub blocks_after : PlainState → List Entry → List MadeBlock
+blocks_after state [] = []
+blocks_after state (entry ∷ history) = blocks_of_entry state entry ++ blocks_after (step state entry) history
 
 -- how many seals there were up to that of the group, of those that the history finishes, that was sealed last; none where it finishes
 -- none. The groups in the list were sealed before the history
@@ -143,6 +143,6 @@ held_finished held (Answer session reply ∷ history) = held_finished held histo
 held_finished held (Seal group ∷ history) = held_finished held history
 held_finished held (Finish group more ∷ history) = held_finished more history
 
--- the blocks that the history of a pool made behind the seal of the latest finished group, each once
+-- the blocks that the history of a pool made after the seal of the latest finished group, each once
 abbrev pub made_since : PlainPool → List Entry → List MadeBlock
-made_since start history = with_each is_block [] (filter (is_behind (seals_finished [] history)) (blocks_behind (begun start) history))
+made_since start history = with_each is_block [] (filter (is_after (seals_finished [] history)) (blocks_after (begun start) history))

@@ -1,6 +1,6 @@
 -- Which histories of a pool are legal: which entry may come next, by what is due.
 --
--- A command that plain files answer at once has its answer directly behind it. A commit has the seal of its group directly behind it,
+-- A command that plain files answer at once has its answer directly after it. A commit has the seal of its group directly after it,
 -- and its answer later: once every group that was sealed up to then is finished, or once a device call has failed. Seals are numbered
 -- upwards, and groups are finished in their order.
 use Rattle.std.specs.Prelude.{◌≡◌, ℕ, ◌+◌, ◌==◌, Bool, true, false, not, ◌||◌, nat_lt, List, [], ◌∷◌, ◌++◌, drop, filter, Option, Some, None}
@@ -30,7 +30,7 @@ pub record Unfinished : Type 0 where
   pub group : ℕ
   pub held : ℕ
 
--- a pool behind some entries: what is due, who waits, which groups are to be finished, which was sealed last, and whether an answer
+-- a pool after some entries: what is due, who waits, which groups are to be finished, which was sealed last, and whether an answer
 -- said that a device call failed
 pub record Progress : Type 0 where
   pub state : PlainState
@@ -78,15 +78,15 @@ abbrev pub is_over : Wait → List Unfinished → Bool
 is_over wait unfinished = list_all (λ (one : Unfinished). nat_lt wait.group one.group) unfinished
 
 -- what a command that has this reply at once leaves due; None for one that is waited for
-abbrev pub due_behind : (session : ℕ) → Option Reply → Due
-due_behind session None = SealDue session
-due_behind session (Some reply) = AnswerDue session reply
+abbrev pub due_after : (session : ℕ) → Option Reply → Due
+due_after session None = SealDue session
+due_after session (Some reply) = AnswerDue session reply
 
--- who waits once the group is sealed behind what was due
-abbrev pub waiting_behind : Due → ℕ → List Wait → List Wait
-waiting_behind Nothing group waits = waits
-waiting_behind (AnswerDue session reply) group waits = waits
-waiting_behind (SealDue session) group waits = waits ++ record { session = session; group = group } ∷ []
+-- who waits once the group is sealed after what was due
+abbrev pub waiting_after : Due → ℕ → List Wait → List Wait
+waiting_after Nothing group waits = waits
+waiting_after (AnswerDue session reply) group waits = waits
+waiting_after (SealDue session) group waits = waits ++ record { session = session; group = group } ∷ []
 
 -- an answer that was due is given; any other ends a wait
 abbrev pub answered : Due → (session : ℕ) → Reply → Progress → Progress
@@ -94,19 +94,19 @@ answered Nothing session reply p = record p { waits = without_wait session p.wai
 answered (AnswerDue to due) session reply p = record p { due = Nothing }
 answered (SealDue to) session reply p = p
 
--- what is due behind one more entry
+-- what is due after one more entry
 abbrev pub moved : Progress → Entry → Progress
-moved p (Ask session command) = record p { due = due_behind session (reply_of p.state (Ask session command)) }
+moved p (Ask session command) = record p { due = due_after session (reply_of p.state (Ask session command)) }
 moved p (Answer session reply) = answered p.due session reply p
 moved p (Seal group) = record p {
   due = Nothing;
-  waits = waiting_behind p.due group p.waits;
+  waits = waiting_after p.due group p.waits;
   unfinished = p.unfinished ++ record { group = group; held = held_by p.state.pool } ∷ [];
   last = group;
 }
 moved p (Finish group held) = record p { unfinished = drop 1 p.unfinished }
 
--- the pool behind one more entry
+-- the pool after one more entry
 unfoldable pub progress : Progress → Entry → Progress
 progress p entry = record (moved p entry) { state = step p.state entry }
 
@@ -152,6 +152,6 @@ abbrev pub AreLegal : (first_failed : Option ℕ) → Progress → List Entry �
 AreLegal first_failed p [] = Unit {0}
 AreLegal first_failed p (entry ∷ entries) = MayFollow first_failed p entry × AreLegal first_failed (progress p entry) entries
 
--- the history is one of a pool that began so, behind this claim group; where device calls failed, this was the first
+-- the history is one of a pool that began so, after this claim group; where device calls failed, this was the first
 abbrev pub IsLegal : (start : PlainPool) (claim : ℕ) (first_failed : Option ℕ) → List Entry → Type 0
 IsLegal start claim first_failed history = AreLegal first_failed (at_start start claim) history

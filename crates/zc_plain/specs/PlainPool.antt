@@ -22,7 +22,7 @@ abbrev pub bytes_of_block : PlainBlock → List ℕ
 bytes_of_block Hole = zeros
 bytes_of_block (Made entry index bytes) = bytes
 
--- the block with the index; behind the last there are holes
+-- the block with the index; after the last there are holes
 abbrev pub block_at : ℕ → List PlainBlock → PlainBlock
 block_at index blocks = unwrap_or (slice_get blocks index) Hole
 

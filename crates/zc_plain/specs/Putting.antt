@@ -6,11 +6,11 @@ use Rattle.zc_plain.specs.declared.plain_pool.PlainBlock.TheVariants.{Hole}
 use Rattle.zc_plain.specs.PlainPool.{blocks_of_size}
 use Rattle.zc_plain.specs.Written.{made_block}
 
--- the blocks with holes behind them, so that there are at least so many
+-- the blocks with holes after them, so that there are at least so many
 unfoldable pub grown : ℕ → List PlainBlock → List PlainBlock
 grown count blocks = blocks ++ replicate (count - length blocks) Hole
 
--- so many blocks: the last ones go, or holes stand behind them
+-- so many blocks: the last ones go, or holes stand after them
 unfoldable pub resized : ℕ → List PlainBlock → List PlainBlock
 resized count blocks = take count (grown count blocks)
 

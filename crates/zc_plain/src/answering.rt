@@ -1,9 +1,9 @@
-// What an entry of a history comes to: the reply, where there is one at once, and the pool behind the entry.
+// What an entry of a history comes to: the reply, where there is one at once, and the pool after the entry.
 ghost use Rattle.std.specs.Prelude.{◌≡◌, ◌-◌, ◌^◌, IfOk, OnErr};
 ghost use Rattle.zc_command.specs.Names.{AreConditions};
 ghost use Rattle.zc_plain.specs.IsPlain.{IsPlain, AreNextUpTo, IsTally};
 ghost use Rattle.zc_plain.specs.Answer.{Answers, Counts, answer, named_answer, blocks_of_command, counted};
-ghost use Rattle.zc_plain.specs.History.{MeetsConditions, is_waiting, reply_to, pool_behind, tally_behind, reply_at, next_pool, next_tally};
+ghost use Rattle.zc_plain.specs.History.{MeetsConditions, is_waiting, reply_to, pool_after_command, tally_after, reply_at, next_pool, next_tally};
 
 use crate::commands::{
     create, fill, mkds, mount, read, refused, remove, rmds, stat, truncate, write,
@@ -60,7 +60,7 @@ fn command_reply(
     requires counts { IsTally tally.old }
     requires numbers { AreNextUpTo (2 ^ 64 - 2) pool.old }
     requires conditions { AreConditions command.now }
-    ensures ok { IfOk result (λ reply. (reply ≡ reply_to number tally.old pool.old command.now) × (pool.new ≡ pool_behind number tally.old pool.old command.now) × (tally.new ≡ tally_behind number tally.old pool.old command.now)) }
+    ensures ok { IfOk result (λ reply. (reply ≡ reply_to number tally.old pool.old command.now) × (pool.new ≡ pool_after_command number tally.old pool.old command.now) × (tally.new ≡ tally_after number tally.old pool.old command.now)) }
     ensures err { OnErr result ((pool.new ≡ pool.old) × (tally.new ≡ tally.old)) }
 {
     if is_waiting(command) {

@@ -7,13 +7,13 @@ ghost use Rattle.zc_plain.specs.Written.{written};
 ghost use Rattle.zc_plain.specs.Truncated.{truncated};
 ghost use Rattle.zc_plain.specs.IsPlain.{IsPlain, IsPlainFile, AreNextUpTo, IsTally};
 ghost use Rattle.zc_plain.specs.Charge.{is_block, with_each, blocks_made};
-ghost use Rattle.zc_plain.specs.Answer.{path_of, mkds, rmds, mount, create, remove, write, fill, truncate, put_some, room_in_file, read, stat, blocks_put, blocks_touched, blocks_on, blocks_cut, counted, Answers, Counts};
+ghost use Rattle.zc_plain.specs.Answer.{path_of, mkds, rmds, mount, create, remove, write, fill, truncate, put_some, room_in_file, read, stat, blocks_put, blocks_touched, blocks_on, blocks_trimmed, counted, Answers, Counts};
 
 use crate::finding::{Path, dataset_at, dataset_of, dataset_place, file_at, file_place, path_of};
 use crate::reading::{bytes_from, made_count};
 use crate::room::{refuse_charge, refuse_end, room_in_file};
 use crate::tally::{MadeBlock, Tally, with_blocks_of};
-use crate::truncating::{is_cut, truncate_file};
+use crate::truncating::{is_trimmed, truncate_file};
 use crate::writing::write_into;
 use crate::{PlainDataset, PlainFile, PlainPool};
 use std::alloc::Global;
@@ -260,7 +260,7 @@ pub fn truncate(
     requires counts { IsTally tally.old }
     requires fits { size ≤ 2 ^ 62 }
     ensures pool { Answers pool.old pool.new result (truncate number dataset.now file.now size tally.old pool.old) }
-    ensures tally { Counts tally.old tally.new result (counted tally.old (blocks_on (path_of dataset.now file.now pool.old) (λ path. blocks_cut tally.old size path pool.old)) (truncate number dataset.now file.now size tally.old pool.old)) }
+    ensures tally { Counts tally.old tally.new result (counted tally.old (blocks_on (path_of dataset.now file.now pool.old) (λ path. blocks_trimmed tally.old size path pool.old)) (truncate number dataset.now file.now size tally.old pool.old)) }
 {
     let path = match path_of(pool, dataset, file) {
         Err(refusal) => return Ok(refused(refusal)),
@@ -269,7 +269,7 @@ pub fn truncate(
     if let Err(refusal) = refuse_end(pool, size) {
         return Ok(refused(refusal));
     }
-    let made = with_cut_block(alloc, pool, tally, path, size)?;
+    let made = with_trimmed_block(alloc, pool, tally, path, size)?;
     if let Err(refusal) = refuse_charge(pool, tally.held, made.as_slice()) {
         return Ok(refused(refusal));
     }
@@ -278,9 +278,9 @@ pub fn truncate(
     Ok(Reply::Done)
 }
 
-// The blocks that were made, with the one in which the file at the path is cut.
+// The blocks that were made, with the one in which the file at the path is trimmed.
 #[tactic(auto, using(zc_num::proofs::Each::each_none))]
-fn with_cut_block(
+fn with_trimmed_block(
     alloc: Global,
     pool: &PlainPool,
     tally: &Tally,
@@ -289,9 +289,9 @@ fn with_cut_block(
 ) -> Result<Vec<MadeBlock>, NoMemory>
     requires dataset { path.dataset < length pool.now.datasets }
     requires file { path.file < length (dataset_at path.dataset pool.now).files }
-    ensures { IfOk result (λ made. made.items ≡ with_each is_block tally.now.made (blocks_cut tally.now size path pool.now)) }
+    ensures { IfOk result (λ made. made.items ≡ with_each is_block tally.now.made (blocks_trimmed tally.now size path pool.now)) }
 {
-    if is_cut(file_at(pool, path), size) {
+    if is_trimmed(file_at(pool, path), size) {
         return with_path_blocks(alloc, pool, tally, path, size / 4096, 1);
     }
     with_path_blocks(alloc, pool, tally, path, 0, 0)

@@ -18,8 +18,6 @@ mod plain_pool;
 mod reading;
 mod room;
 mod tally;
-#[cfg(test)]
-mod tests;
 mod truncating;
 mod writing;
 

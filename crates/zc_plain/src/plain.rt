@@ -14,7 +14,7 @@ use std::marker::Model;
 use zc_command::Reply;
 use zc_num::{Limits, Listed, Name, NoMemory};
 
-/// A plain pool behind the entries of a history.
+/// A plain pool after the entries of a history.
 #[derive(Debug, Drop)]
 pub struct Plain {
     alloc: Global,
@@ -84,7 +84,7 @@ impl Plain {
         })
     }
 
-    /// How many entries there were. The next one has the number behind theirs.
+    /// How many entries there were. The next one has the number after theirs.
     pub fn entries(&self) -> u64
         ensures { result ≡ self.now.entries }
     {

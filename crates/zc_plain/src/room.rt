@@ -4,7 +4,7 @@ ghost use Rattle.zc_command.specs.declared.refusal.What.TheVariants as what;
 ghost use Rattle.zc_command.specs.declared.refusal.Refusal.TheVariants.{Enospc};
 ghost use Rattle.zc_plain.specs.PlainPool.{dataset_at, file_at, pointers_in};
 ghost use Rattle.zc_plain.specs.IsPlain.{IsPlain, IsPlainDataset};
-ghost use Rattle.zc_plain.specs.Answer.{refuse_if, refuse_end, refuse_pointers, holes_touched, pointers_behind, room_in_file, most_charge, most_files};
+ghost use Rattle.zc_plain.specs.Answer.{refuse_if, refuse_end, refuse_pointers, holes_touched, pointers_after, room_in_file, most_charge, most_files};
 
 use crate::finding::{Path, dataset_at, file_at, refuse_if};
 use crate::reading::{is_made, made_count};

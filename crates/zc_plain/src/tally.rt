@@ -1,11 +1,11 @@
-// What a pool's charge is counted from: what the last finished group holds, and which blocks were made behind its seal.
+// What a pool's charge is counted from: what the last finished group holds, and which blocks were made after its seal.
 //
 // The blocks are a list without repeats, and each one is looked for in it. So a group in which many blocks are made takes a time
 // that grows with the square of their number.
 ghost use Rattle.std.specs.Prelude.{◌≡◌, ℕ, ◌==◌, ◌+◌, ◌^◌, ◌<◌, length, filter, IfOk, IfSome, OnOk, OnErr};
 ghost use Rattle.zc_num.specs.Words.{found_from};
 ghost use Rattle.std.specs.List.{list_any};
-ghost use Rattle.zc_plain.specs.Charge.{is_block, with_one, with_each, blocks_made, with_seal, with_finish, seals_up_to, is_behind, charge_of};
+ghost use Rattle.zc_plain.specs.Charge.{is_block, with_one, with_each, blocks_made, with_seal, with_finish, seals_up_to, is_after, charge_of};
 
 use std::alloc::Global;
 use std::mem;
@@ -31,11 +31,11 @@ pub struct Tally {
     pub sealed: Listed<u64>,
     /// How many blocks the last finished group holds, each once; before any, how many the pool began with.
     pub held: u64,
-    /// The blocks that were made behind that group's seal, each once; before any, those that were made at all.
+    /// The blocks that were made after that group's seal, each once; before any, those that were made at all.
     pub made: Listed<MadeBlock>,
 }
 
-// Whether both are one block of one file, made behind as many seals.
+// Whether both are one block of one file, made after as many seals.
 fn is_block(a: &MadeBlock, b: &MadeBlock) -> bool
     ensures { result ≡ is_block a.now b.now }
 {
@@ -134,9 +134,9 @@ fn seals_up_to(group: u64, sealed: &[u64]) -> u64
     }
 }
 
-// The blocks that were made behind so many seals or more stay.
-fn keep_behind(made: &mut Vec<MadeBlock>, seals: u64)
-    ensures { made.new.items ≡ filter (is_behind seals) made.old.items }
+// The blocks that were made after so many seals or more stay.
+fn keep_after(made: &mut Vec<MadeBlock>, seals: u64)
+    ensures { made.new.items ≡ filter (is_after seals) made.old.items }
 {
     made.retain(|block| seals <= block.seals);
 }
@@ -148,7 +148,7 @@ pub fn finish(alloc: Global, tally: &mut Tally, group: u64, held: u64)
 {
     let seals = seals_up_to(group, tally.sealed.as_slice());
     let mut made = mem::replace(&mut tally.made, Listed::new(alloc)).into_vec();
-    keep_behind(&mut made, seals);
+    keep_after(&mut made, seals);
     tally.made = Listed::from_vec(made);
     tally.held = held;
 }

@@ -122,7 +122,7 @@ fn put_in_vec(
     Ok(())
 }
 
-/// Gives the list so many blocks: the last ones go, or holes stand behind them.
+/// Gives the list so many blocks: the last ones go, or holes stand after them.
 ///
 /// # Errors
 /// Want of memory; the blocks are as before.

@@ -1,4 +1,4 @@
--- Calls that are pushed one behind the other are those of a group and of a creation.
+-- Calls that are pushed one after the other are those of a group and of a creation.
 use Rattle.std.proofs.Common.{◌≡◌, ℕ, ◌+◌, ◌<◌, Bool, List, [], ◌∷◌, ◌++◌, length, map, take, get_or, ap, subst, sym, ◌∙◌, append_assoc, append-nil}
 use Rattle.std.proofs.lemmas.Grind.{take_at_read}
 use Rattle.std.proofs.lemmas.List.{map-append}
@@ -16,7 +16,7 @@ use Rattle.zc_layout.proofs.CallsThere.{group_calls_there, creation_calls_there}
 use Rattle.zc_plan.specs.declared.input.PlacedBlock.{PlacedBlock}
 use Rattle.zc_plan.specs.Puts.{put_of, puts_of, HasRoom}
 
--- one more call behind those that were pushed
+-- one more call after those that were pushed
 pub pushed_more : (old done made : List Call) (call : Call) (calls : List Call) → calls ≡ (old ++ done) ++ call ∷ [] → made ≡ done ++ call ∷ [] → calls ≡ old ++ made
 pushed_more old done made call calls e next = e ∙ append_assoc old done (call ∷ []) ∙ ap (λ xs. old ++ xs) (sym next)
 

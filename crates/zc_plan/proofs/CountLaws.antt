@@ -33,15 +33,15 @@ failed_calls t u (call ∷ plan) (inr on) =
 
 module _ (t ready u : Tape) (plan : List Call) (same : ready ≡ t) (told : IsTrue t.told) where
   -- all calls of a plan that was played to its end were Ok
-  pub all_made : Played ready u plan true → AllMade (drop (length t.calls) u.calls)
+  pub all_made : Played ready plan u true → AllMade (drop (length t.calls) u.calls)
   all_made played =
-      let calls : u.calls ≡ t.calls ++ all_ok plan = ap (λ (v : Tape). v.calls) (plays_calls t u plan (subst (λ (v : Tape). Played v u plan true) same played told)) in
+      let calls : u.calls ≡ t.calls ++ all_ok plan = ap (λ (v : Tape). v.calls) (plays_calls t u plan (subst (λ (v : Tape). Played v plan u true) same played told)) in
       subst AllMade (sym (ap (drop (length t.calls)) calls ∙ drop-append_seam t.calls (all_ok plan))) (all_ok_made plan)
 
   -- and of one that failed all but the last
-  pub all_but_last : Played ready u plan false → AllButLast (drop (length t.calls) u.calls)
+  pub all_but_last : Played ready plan u false → AllButLast (drop (length t.calls) u.calls)
   all_but_last played =
-      let more = failed_calls t u plan (subst (λ (v : Tape). Played v u plan false) same played told) in
+      let more = failed_calls t u plan (subst (λ (v : Tape). Played v plan u false) same played told) in
       record {
         front = more.0;
         last = more.1;

@@ -8,13 +8,13 @@ use Rattle.zc_tape.proofs.Plans.{begun_played}
 use Rattle.zc_layout.specs.Layout.{Put}
 use Rattle.zc_layout.specs.Standing.{Standing}
 use Rattle.zc_layout.specs.Outcomes.{before_gate, before_first_gate, GroupLeaves, GroupIsMade, CreationLeaves, CreationIsMade}
-use Rattle.zc_layout.proofs.GroupCrash.{group_moments, group_is_made, group_unwritten_behind}
+use Rattle.zc_layout.proofs.GroupCrash.{group_moments, group_is_made, group_unwritten_after}
 use Rattle.zc_layout.proofs.CreationCrash.{creation_moments, creation_is_made}
 use Rattle.zc_plan.specs.Start.{StartsGroup, StartsCreation, LeavesElsewhere}
 
 -- calls that were played since room was made for them are begun
-pub begun_from : (t ready u : Tape) (calls : List Call) (ok : Bool) → ready ≡ t → Played ready u calls ok → IsTrue t.told → Begun t calls u
-begun_from t ready u calls ok e played told = begun_played t u calls ok (subst (λ v. Played v u calls ok) e played told)
+pub begun_from : (t ready u : Tape) (calls : List Call) (ok : Bool) → ready ≡ t → Played ready calls u ok → IsTrue t.told → Begun t calls u
+begun_from t ready u calls ok e played told = begun_played t u calls ok (subst (λ v. Played v calls u ok) e played told)
 
 module _ (t u : Tape) (calls : List Call) where
   -- ---- of a group
@@ -27,10 +27,10 @@ module _ (t u : Tape) (calls : List Call) where
   pub group_leaves_elsewhere : (old new : Standing) (puts : List Put) (gate_open : Bool) → (IsTrue t.told → Begun t calls u)
       → StartsGroup t calls old new puts gate_open → LeavesElsewhere t u puts
   group_leaves_elsewhere old new puts gate_open begun starts =
-      group_unwritten_behind May t u puts new.body gate_open may_is_kind starts.at_rest
+      group_unwritten_after May t u puts new.body gate_open may_is_kind starts.at_rest
       (subst (λ plan. Begun t plan u) starts.planned (begun starts.told))
 
-  pub group_made : (old new : Standing) (puts : List Put) (gate_open : Bool) → Played t u calls true → StartsGroup t calls old new puts gate_open
+  pub group_made : (old new : Standing) (puts : List Put) (gate_open : Bool) → Played t calls u true → StartsGroup t calls old new puts gate_open
       → GroupIsMade May u new
   group_made old new puts gate_open played starts =
       group_is_made May t u old new puts gate_open may_is_kind starts.at_rest starts.stands starts.leads starts.gate
@@ -44,7 +44,7 @@ module _ (t u : Tape) (calls : List Call) where
       creation_moments May t u first_open second_open logs new puts may_is_kind starts.at_rest starts.none starts.first_gate starts.second_gate
       starts.begins starts.beside_logs (subst (λ plan. Begun t plan u) starts.planned (begun starts.told))
 
-  pub creation_made : (new : Standing) (puts : List Put) (first_open second_open : Bool) (logs : ℕ) → Played t u calls true
+  pub creation_made : (new : Standing) (puts : List Put) (first_open second_open : Bool) (logs : ℕ) → Played t calls u true
       → StartsCreation t calls new puts first_open second_open logs → CreationIsMade May u logs new
   creation_made new puts first_open second_open logs played starts =
       creation_is_made May t u first_open second_open logs new puts may_is_kind starts.at_rest starts.none starts.first_gate starts.second_gate

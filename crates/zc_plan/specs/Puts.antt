@@ -17,7 +17,7 @@ puts_of blocks = map put_of blocks
 abbrev pub puts_of_group : GroupPlan → List Put
 puts_of_group input = puts_of input.blocks ++ puts_of input.chain
 
--- a disk set of this shape has the places of the roots, so many places of logs behind them, and the places of the puts
+-- a disk set of this shape has the places of the roots, so many places of logs after them, and the places of the puts
 pub record HasRoom (shape : Shape) (logs : ℕ) (puts : List Put) : Type 0 where
   pub devices : 1 ≤ shape.devices
   pub places : 4 + logs ≤ shape.places

@@ -29,7 +29,7 @@ pub record StartsCreation (t : Tape) (calls : List Call) (new : Standing) (puts 
   pub beside_logs : (place : ℕ) → place < 4 + logs → owns puts 0 place ≡ false
   pub planned : calls ≡ creation_calls first_open second_open logs puts new.body
 
--- at each moment since the calls began on the tape t, every place behind the roots at which no put is holds what it held
+-- at each moment since the calls began on the tape t, every place after the roots at which no put is holds what it held
 abbrev pub LeavesElsewhere : (t u : Tape) → List Put → Type 0
 LeavesElsewhere t u puts =
     EachCrash May u (length t.calls) (λ _ image. (d p : ℕ) → owns puts d p ≡ false → (d ≡ 0 → p < 4 → ⊥) → image d p ≡ reads t d p)

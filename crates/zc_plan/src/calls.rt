@@ -1,4 +1,4 @@
-// Calls, pushed one behind the other.
+// Calls, pushed one after the other.
 ghost use Rattle.std.specs.Prelude.{◌≡◌, ◌∷◌, ◌++◌, [], map, OnOk};
 ghost use Rattle.zc_layout.specs.Standing.{write_of, closing, group_calls};
 ghost use Rattle.zc_plan.specs.Puts.{put_of, puts_of};

@@ -34,7 +34,7 @@ fn push_clearing(
     push_sync_where(calls, first_open || second_open)
 }
 
-// Zeros to so many places behind the roots.
+// Zeros to so many places after the roots.
 #[tactic(auto, using(crate::proofs::CallLaws::log_pushed))]
 fn push_logs(alloc: Global, calls: &mut Vec<DiskCall>, logs: u32) -> Result<(), NoMemory>
     requires { 4 + logs ≤ 2 ^ 32 }

@@ -34,6 +34,6 @@ pub struct CreationPlan {
     pub first_open: bool,
     /// Whether the gate of slot 1 is open.
     pub second_open: bool,
-    /// How many places the logs have, behind the roots.
+    /// How many places the logs have, after the roots.
     pub logs: u32,
 }

@@ -16,8 +16,6 @@ mod calls;
 mod creation;
 mod group;
 mod input;
-#[cfg(test)]
-mod tests;
 mod write;
 
 pub use creation::plan_creation;

@@ -30,9 +30,9 @@ fn make<D: DiskSet>(disks: &mut D, plan: &Plan) -> Result<u64, WriteFault>
     requires there { AreThere (D.shape disks.old) (map call_of plan.now.calls.items) }
     ensures told { (D.tape disks.new).told ≡ (D.tape disks.old).told }
     ensures shape { D.shape disks.new ≡ D.shape disks.old }
-    ensures ok { OnOk result (Played (D.tape disks.old) (D.tape disks.new) (map call_of plan.now.calls.items) true) }
+    ensures ok { OnOk result (Played (D.tape disks.old) (map call_of plan.now.calls.items) (D.tape disks.new) true) }
     ensures failed { IfErr result (λ fault. IsFailed fault
-        → Played (D.tape disks.old) (D.tape disks.new) (map call_of plan.now.calls.items) false) }
+        → Played (D.tape disks.old) (map call_of plan.now.calls.items) (D.tape disks.new) false) }
     ensures memory { IsErrOf result WriteFault.NoMemory → D.tape disks.new ≡ D.tape disks.old }
     ensures no_fault { IsErrOf result WriteFault.NoMemory → D.faults disks.new ≡ D.faults disks.old }
     ensures begun { IsTrue (D.tape disks.old).told → Begun (D.tape disks.old) (map call_of plan.now.calls.items) (D.tape disks.new) }
@@ -62,7 +62,7 @@ fn make_each<D: DiskSet>(disks: &mut D, calls: &[DiskCall]) -> Result<u64, u64>
     requires there { AreThere (D.shape disks.old) (map call_of calls.now) }
     requires room { length calls.now ≤ D.spare disks.old }
     ensures told { (D.tape disks.new).told ≡ (D.tape disks.old).told }
-    ensures played { Played (D.tape disks.old) (D.tape disks.new) (map call_of calls.now) (is_ok result) }
+    ensures played { Played (D.tape disks.old) (map call_of calls.now) (D.tape disks.new) (is_ok result) }
     ensures shape { D.shape disks.new ≡ D.shape disks.old }
     ensures cause { HasCause (D.faults disks.old) (D.faults disks.new) result }
     ensures counted { IfOk result (λ made. IsTrue (D.tape disks.old).told
@@ -88,9 +88,9 @@ pub fn write_group<D: DiskSet>(disks: &mut D, plan: &Plan) -> Result<u64, WriteF
     requires there { AreThere (D.shape disks.old) (map call_of plan.now.calls.items) }
     ensures told { (D.tape disks.new).told ≡ (D.tape disks.old).told }
     ensures shape { D.shape disks.new ≡ D.shape disks.old }
-    ensures ok { OnOk result (Played (D.tape disks.old) (D.tape disks.new) (map call_of plan.now.calls.items) true) }
+    ensures ok { OnOk result (Played (D.tape disks.old) (map call_of plan.now.calls.items) (D.tape disks.new) true) }
     ensures failed { IfErr result (λ fault. IsFailed fault
-        → Played (D.tape disks.old) (D.tape disks.new) (map call_of plan.now.calls.items) false) }
+        → Played (D.tape disks.old) (map call_of plan.now.calls.items) (D.tape disks.new) false) }
     ensures memory { IsErrOf result WriteFault.NoMemory → D.tape disks.new ≡ D.tape disks.old }
     ensures no_fault { IsErrOf result WriteFault.NoMemory → D.faults disks.new ≡ D.faults disks.old }
     ensures begun { IsTrue (D.tape disks.old).told → Begun (D.tape disks.old) (map call_of plan.now.calls.items) (D.tape disks.new) }
@@ -135,9 +135,9 @@ pub fn write_creation<D: DiskSet>(disks: &mut D, plan: &Plan) -> Result<u64, Wri
     requires there { AreThere (D.shape disks.old) (map call_of plan.now.calls.items) }
     ensures told { (D.tape disks.new).told ≡ (D.tape disks.old).told }
     ensures shape { D.shape disks.new ≡ D.shape disks.old }
-    ensures ok { OnOk result (Played (D.tape disks.old) (D.tape disks.new) (map call_of plan.now.calls.items) true) }
+    ensures ok { OnOk result (Played (D.tape disks.old) (map call_of plan.now.calls.items) (D.tape disks.new) true) }
     ensures failed { IfErr result (λ fault. IsFailed fault
-        → Played (D.tape disks.old) (D.tape disks.new) (map call_of plan.now.calls.items) false) }
+        → Played (D.tape disks.old) (map call_of plan.now.calls.items) (D.tape disks.new) false) }
     ensures memory { IsErrOf result WriteFault.NoMemory → D.tape disks.new ≡ D.tape disks.old }
     ensures no_fault { IsErrOf result WriteFault.NoMemory → D.faults disks.new ≡ D.faults disks.old }
     ensures begun { IsTrue (D.tape disks.old).told → Begun (D.tape disks.old) (map call_of plan.now.calls.items) (D.tape disks.new) }

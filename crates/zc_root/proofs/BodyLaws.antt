@@ -16,11 +16,11 @@ pub title_length : length title ≡ 12
 unfolding title u32_bytes
 title_length = refl
 
--- what stands behind a part that stands from byte `at` on
+-- what stands after a part that stands from byte `at` on
 behind : (bytes part rest : List ℕ) (at n : ℕ) → drop at bytes ≡ part ++ rest → length part ≡ n → drop (at + n) bytes ≡ rest
 behind bytes part rest at n here len = sym (drop-drop n at bytes) ∙ ap (drop n) here ∙ drop_at part rest n len
 
--- the parts of the head in a row, with what stands behind them
+-- the parts of the head in a row, with what stands after them
 parts_of_head : (body : Body) (rest : List ℕ) → head_bytes body ++ rest ≡ title ++ (u64_bytes body.pool ++ (u64_bytes body.group ++ (u32_bytes body.devices ++ (u32_bytes body.places ++ (u64_bytes body.next_dataset
     ++ (u32_bytes body.first_device ++ (u32_bytes body.first_place ++ (u32_bytes body.chain ++ (u64_bytes body.length ++ (body.digest ++ rest))))))))))
 unfolding head_bytes

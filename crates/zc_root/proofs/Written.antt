@@ -12,7 +12,7 @@ over_the_last a k bytes put fits =
     let none : drop k (drop a bytes) ≡ [] = nil_from_length (drop k (drop a bytes)) (omega (arith, length-drop k (drop a bytes), length-drop a bytes)) in
     ap (λ (t : List ℕ). take a bytes ++ (put ++ t)) none ∙ ap (λ (t : List ℕ). take a bytes ++ t) (append-nil put)
 
--- two parts, written one behind the other over all of a list
+-- two parts, written one after the other over all of a list
 pub two_written : (n k : ℕ) (bytes first second front back : List ℕ) → length bytes ≡ n + k → length front ≡ n → first ≡ front → second ≡ back
     → take n (first ++ drop n bytes) ++ (second ++ drop k (drop n (first ++ drop n bytes))) ≡ front ++ back
 two_written n k bytes first second front back len front_len first_is second_is =
@@ -20,7 +20,7 @@ two_written n k bytes first second front back len front_len first_is second_is =
     let all : length (first ++ drop n bytes) ≤ n + k = omega (arith, length-append first (drop n bytes), length-drop n bytes) in
     over_the_last n k (first ++ drop n bytes) second all ∙ ap (λ (t : List ℕ). t ++ second) (take_at first (drop n bytes) n first_len) ∙ (λ i. first_is i ++ second_is i)
 
--- the head, written piece by piece, each behind the one before
+-- the head, written piece by piece, each after the one before
 pub head_written : (body : Body) (opening b1 b2 b3 b4 b5 b6 b7 b8 b9 b10 : List ℕ)
     → opening ≡ title → take (0 + length opening) b1 ≡ opening
     → take 20 b2 ≡ take 12 b1 ++ u64_bytes body.pool → take 28 b3 ≡ take 20 b2 ++ u64_bytes body.group

@@ -8,13 +8,13 @@ use Rattle.zc_root.specs.declared.body.Body.{Body}
 unfoldable pub title : List ℕ
 title = codes "ZCROOT01" ++ u32_bytes 1
 
--- the title and the fields behind it, 96 bytes
+-- the title and the fields after it, 96 bytes
 unfoldable pub head_bytes : Body → List ℕ
 head_bytes body =
     title ++ (u64_bytes body.pool ++ (u64_bytes body.group ++ (u32_bytes body.devices ++ (u32_bytes body.places ++ (u64_bytes body.next_dataset
     ++ (u32_bytes body.first_device ++ (u32_bytes body.first_place ++ (u32_bytes body.chain ++ (u64_bytes body.length ++ body.digest)))))))))
 
--- the zeros behind the head, up to byte 4,063
+-- the zeros after the head, up to byte 4,063
 unfoldable pub padding : List ℕ
 padding = replicate 3968 0
 

@@ -3,7 +3,7 @@ use Rattle.std.specs.Prelude.{List, ℕ, take, drop}
 use Rattle.zc_wire.specs.Numbers.{u32_of, u64_of}
 use Rattle.zc_root.specs.declared.body.Body.{Body}
 
--- what the fields of these bytes say, each at its place behind the title, whether the bytes are those of a body or not
+-- what the fields of these bytes say, each at its place after the title, whether the bytes are those of a body or not
 unfoldable pub fields_in : List ℕ → Body
 fields_in bytes = record {
   pool = u64_of (drop 12 bytes);

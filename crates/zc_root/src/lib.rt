@@ -13,8 +13,6 @@ mod body;
 mod gate;
 mod reading;
 mod slots;
-#[cfg(test)]
-mod tests;
 mod writing;
 
 pub use body::{Body, slot_of};

@@ -20,7 +20,7 @@ pub fn body_bytes(body: &Body, out: &mut [u8; 4096])
     join(out, &front, &Sha256::digest(&front));
 }
 
-// The fields of a body behind the title.
+// The fields of a body after the title.
 fn head_of(body: &Body) -> [u8; 96]
     ensures { result ≡ head_bytes body.now }
 {
@@ -47,7 +47,7 @@ fn title() -> [u8; 12]
     TITLE
 }
 
-// Writes bytes behind the first `from` of `out`. What stands behind them is not said.
+// Writes bytes after the first `from` of `out`. What stands after them is not said.
 fn put(out: &mut [u8; 96], from: usize, bytes: &[u8])
     requires { from + length bytes.now ≤ 96 }
     ensures { take (from + length bytes.now) out.new ≡ take from out.old ++ bytes.now }
@@ -71,7 +71,7 @@ fn put_u64(out: &mut [u8; 96], from: usize, value: u64)
     put(out, from, &bytes_of_u64(value));
 }
 
-// Writes a digest behind the first 64 bytes.
+// Writes a digest after the first 64 bytes.
 fn put_digest(out: &mut [u8; 96], digest: &[u8; 32])
     ensures { out.new ≡ take 64 out.old ++ digest.now }
 {
@@ -88,7 +88,7 @@ fn front_of(head: &[u8; 96]) -> [u8; 4064]
     front
 }
 
-// Writes two texts, the one behind the other.
+// Writes two texts, the one after the other.
 fn join(out: &mut [u8; 4096], front: &[u8; 4064], back: &[u8; 32])
     ensures { out.new ≡ front.now ++ back.now }
 {

@@ -11,7 +11,7 @@ use lib.Lanes.{mask_l}
 use Rattle.zc_num.specs.Words.{each}
 use Rattle.zc_num.proofs.Each.{length_each, item_of_each, each_from_items, each_none, each_more}
 use Rattle.zc_wire.specs.Numbers.{IsBytes}
-use Rattle.zc_wire.specs.Fields.{◌>>=◌, bytes_field, Fails, placed_in}
+use Rattle.zc_wire.specs.Fields.{◌>>=◌, bytes_field, FieldFails, placed_in}
 use Rattle.zc_wire.specs.declared.fields.FieldFault.{FieldFault}
 use Rattle.zc_wire.specs.declared.fields.FieldFault.TheVariants as field
 use Rattle.zc_wire.proofs.FieldLaws.{Takes, takes_length, bytes_take, bytes_again, bind_ok, ok_is}
@@ -210,7 +210,7 @@ map_only places bytes rest other_rest stored other whole fits e as_long spelled 
     λ i. ((same i).0, taken i)
 
 -- where a map stands, it isn't refused
-pub map_stands : (places : ℕ) (bytes rest : List ℕ) (stored : StoredMap) (fault : FieldFault) → places % 8 ≡ 0 → Fails fault (map_field places bytes)
+pub map_stands : (places : ℕ) (bytes rest : List ℕ) (stored : StoredMap) (fault : FieldFault) → places % 8 ≡ 0 → FieldFails fault (map_field places bytes)
     → length stored.allocated ≡ places → bytes ≡ map_bytes stored.allocated ++ rest → IsRead {X = StoredMap × ℕ} (stored, places / 8) (Err (placed_in (length bytes) fault))
 map_stands places bytes rest stored field.NoMemory whole fails as_long spelled = tt
 map_stands places bytes rest stored (field.Bad left) whole fails as_long spelled =

@@ -21,7 +21,7 @@ both false b e = absurd (true≢false (sym e))
 other_place : (states : List PlaceState) (place other : ℕ) → is_given_at states place ≡ false → is_given_at states other ≡ true → other ≢ place
 other_place states place other unlike alike same = true≢false (sym alike ∙ ap (is_given_at states) same ∙ unlike)
 
--- a change of another place, before or behind
+-- a change of another place, before or after
 freed_set : (marks : List PlaceState) (given : List ℕ) (states : List PlaceState) (place : ℕ) (after : PlaceState) → is_given_at marks place ≡ false → list_all (is_given_at marks) given ≡ true
     → freed given (set states place after) ≡ set (freed given states) place after
 freed_set marks [] states place after unlike all = refl

@@ -79,9 +79,9 @@ get_of_front states n place state found =
     slice_get-get_or states place state (omega (arith, length-take n states))
     ∙ ap Some (sym (get_or-take n states place state (omega (arith, length-take n states))) ∙ get_or_from_slice_get (take n states) place state state found)
 
--- a search that begins behind n places, and goes on before them
-pub found_behind : (states : List PlaceState) (n place : ℕ) → position is_free (drop n states) ≡ Some place → slice_get states (n + place) ≡ Some Free
-found_behind states n place found = get_of_back states n place Free (first_is_free (drop n states) place found)
+-- a search that begins after n places, and goes on before them
+pub found_after : (states : List PlaceState) (n place : ℕ) → position is_free (drop n states) ≡ Some place → slice_get states (n + place) ≡ Some Free
+found_after states n place found = get_of_back states n place Free (first_is_free (drop n states) place found)
 
 pub found_before : (states : List PlaceState) (n place : ℕ) → position is_free (take n states) ≡ Some place → slice_get states place ≡ Some Free
 found_before states n place found = get_of_front states n place Free (first_is_free (take n states) place found)

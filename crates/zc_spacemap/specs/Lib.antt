@@ -1,4 +1,4 @@
-pub mod Held
+pub mod MapStates
 pub mod MapBytes
 pub mod Sound
 pub mod States

@@ -23,7 +23,7 @@ impl BitMap {
     ghost use Rattle.std.specs.Prelude.{◌≡◌, ◌↔◌, map, count_by, replicate, slice_get, IfOk, IfSome, IsNone};
     ghost use Rattle.zc_spacemap.specs.declared.state.PlaceState.TheVariants.{Free};
     ghost use Rattle.zc_spacemap.specs.States.{is_free, state_of};
-    ghost use Rattle.zc_spacemap.specs.Held.{states_of};
+    ghost use Rattle.zc_spacemap.specs.MapStates.{states_of};
 
     /// A map of so many places, all free.
     #[tactic(auto, using(crate::proofs::SoundLaws::free_sound))]
@@ -76,7 +76,7 @@ impl BitMap {
     }
 
     // The first free place from `rotor` on, or else the first of all.
-    #[tactic(auto, using(crate::proofs::StateLaws::found_behind, crate::proofs::StateLaws::found_before, crate::proofs::StateLaws::found_nowhere))]
+    #[tactic(auto, using(crate::proofs::StateLaws::found_after, crate::proofs::StateLaws::found_before, crate::proofs::StateLaws::found_nowhere))]
     fn next_free(&self, rotor: u32) -> Option<u32>
         ensures found { IfSome result (λ place. slice_get (states_of self.now) place ≡ Some Free) }
         ensures none { IsNone result ↔ (count_by is_free (states_of self.now) ≡ 0) }
@@ -97,7 +97,7 @@ impl BitMap {
 }
 
 impl SpaceMap for BitMap {
-    ghost use Rattle.zc_spacemap.specs.Held.{states_of, spare_of};
+    ghost use Rattle.zc_spacemap.specs.MapStates.{states_of, spare_of};
 
     ghost states = { states_of };
 

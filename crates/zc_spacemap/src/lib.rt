@@ -12,8 +12,6 @@ mod reading;
 mod space_map;
 mod state;
 mod stored;
-#[cfg(test)]
-mod tests;
 mod writing;
 
 pub use bit_map::BitMap;

@@ -1,6 +1,6 @@
 // The map that bytes spell.
 ghost use Rattle.std.specs.Prelude.{◌≡◌, ℕ, ◌*◌, ◌/◌, ◌%◌, ◌<◌, ◌≤◌, List, Bool, ◌++◌, length, IfOk};
-ghost use Rattle.zc_wire.specs.Fields.{Gives, Answers};
+ghost use Rattle.zc_wire.specs.Fields.{FieldGives, FieldAnswers};
 ghost use Rattle.zc_spacemap.specs.declared.stored.StoredMap.{StoredMap};
 ghost use Rattle.zc_spacemap.specs.MapBytes.{map_bytes, map_of, map_field, is_marked, IsRead};
 
@@ -19,7 +19,7 @@ pub fn read_map(
     places: u32,
 ) -> Result<(StoredMap, usize), CatalogFault>
     requires { places % 128 ≡ 0 }
-    ensures answers { Answers (length bytes.now) result (map_field places bytes.now) }
+    ensures answers { FieldAnswers (length bytes.now) result (map_field places bytes.now) }
     ensures found { IfOk result (λ read. (length read.0.allocated ≡ places) × (read.1 ≡ places / 8)
         × ((rest : List ℕ) × (bytes.now ≡ map_bytes read.0.allocated ++ rest))) }
     ensures only { (stored : StoredMap) → (rest : List ℕ) → length stored.allocated ≡ places
@@ -31,7 +31,7 @@ pub fn read_map(
     }
 }
 
-/// The map of so many places at the front of the bytes, and the bytes behind it.
+/// The map of so many places at the front of the bytes, and the bytes after it.
 ///
 /// # Errors
 /// Want of memory; or `Bad` at the front where there are fewer bytes than an eighth of the places.
@@ -42,7 +42,7 @@ pub fn map_field<'a>(
     places: u32,
 ) -> Result<(StoredMap, &'a [u8]), FieldFault>
     requires { places % 128 ≡ 0 }
-    ensures { Gives (λ x. (x.0, x.1.now)) result (map_field places bytes.now) }
+    ensures { FieldGives (λ x. (x.0, x.1.now)) result (map_field places bytes.now) }
 {
     let (front, rest) = bytes_field(bytes, places as usize / 8)?;
     let stored = map_of(alloc, front, places)?;

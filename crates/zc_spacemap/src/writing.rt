@@ -5,7 +5,7 @@ ghost use Rattle.zc_spacemap.specs.MapBytes.{number_of, map_bytes, kept_places};
 use crate::SpaceMap;
 use zc_num::NoMemory;
 
-/// Puts the bytes of a map of so many places behind those of `out`, as the map will be once it is settled: one bit a place.
+/// Puts the bytes of a map of so many places after those of `out`, as the map will be once it is settled: one bit a place.
 ///
 /// # Errors
 /// Want of memory; `out` is then as it was.

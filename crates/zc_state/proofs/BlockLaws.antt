@@ -18,7 +18,7 @@ use Rattle.zc_damage.specs.declared.damage.Damage.{Damage}
 use Rattle.zc_damage.specs.Places.{number_of, is_to, pointers_to, is_reached, bytes_in}
 use Rattle.zc_layout.specs.Layout as layout
 use Rattle.zc_layout.specs.Layout.{Put, Holds, owns}
-use Rattle.zc_state.specs.State.{put_of, place_at, place_of, block_places, HasDigest}
+use Rattle.zc_state.specs.State.{put_of, place_at, place_of_block, block_places, HasDigest}
 use Rattle.zc_state.specs.Reading.{block_damage, block_at, with_block, blocks_from, blocks_of}
 use Rattle.zc_state.proofs.Steps.{ok_is, bind_ok, bind_again, none_of_choice, no_choice, when_none, when_not, not_false}
 use Rattle.zc_state.proofs.Pointers.{ArePtrs}
@@ -151,7 +151,7 @@ reached_not places reach left number is =
 
 -- the image has these blocks at the reached places, and none has damage
 pub record AreBlocksFrom (places : ℕ) (image : Image) (reach : List Ptr) (left number : ℕ) (blocks : List FoundBlock) : Type 0 where
-  pub places_are : map place_of blocks ≡ reached_from places reach left number
+  pub places_are : map place_of_block blocks ≡ reached_from places reach left number
   pub holds : Holds image (map put_of blocks)
   pub no_damage : HasNoDamage places image reach number left
 
@@ -212,7 +212,7 @@ blocks_found places image reach (suc left) number blocks e =
     (λ others is. blocks_found places image reach left (number + 1) others is)
 
 -- the block of a place that the image holds
-held_block : (places : ℕ) (image : Image) (number : ℕ) (block : FoundBlock) → place_of block ≡ place_at places number → image block.device block.place ≡ block.bytes → block_at places image number ≡ block
+held_block : (places : ℕ) (image : Image) (number : ℕ) (block : FoundBlock) → place_of_block block ≡ place_at places number → image block.device block.place ≡ block.bytes → block_at places image number ≡ block
 held_block places image number block is holds =
     let device : block.device ≡ number / places = ap (λ (at : PlaceAt). at.device) is in
     let place : block.place ≡ number % places = ap (λ (at : PlaceAt). at.place) is in
@@ -238,8 +238,8 @@ step_only places image reach left number (ptr ∷ ptrs) rest [] is are behind =
     let some = are.places_are ∙ reached_next places reach left number (reached places reach number ptr ptrs is) in absurd cc
 step_only places image reach left number (ptr ∷ ptrs) rest (block ∷ others) is are behind =
     let both = are.places_are ∙ reached_next places reach left number (reached places reach number ptr ptrs is) in
-    let here : place_of block ≡ place_at places number = cc in
-    let more : map place_of others ≡ reached_from places reach left (number + 1) = cc in
+    let here : place_of_block block ≡ place_at places number = cc in
+    let more : map place_of_block others ≡ reached_from places reach left (number + 1) = cc in
     let damage : block_damage (ptr ∷ ptrs) (image (number / places) (number % places)) ≡ None =
     ap (λ (p : List Ptr). block_damage p (image (number / places) (number % places))) (sym is) ∙ are.no_damage number (omega arith) (omega arith) in
     let rest_is : rest ≡ Ok others = behind others (record { places_are = more; holds = are.holds.1; no_damage = λ k from low. are.no_damage k (omega arith) (omega arith) }) in
@@ -259,7 +259,7 @@ blocks_only places image reach (suc left) number blocks are =
 -- ---- the bytes of a reached place
 
 -- the blocks are at their places
-pub owns_of_places : (blocks : List FoundBlock) (d p : ℕ) → owns (map put_of blocks) d p ≡ layout.has_place (map place_of blocks) d p
+pub owns_of_places : (blocks : List FoundBlock) (d p : ℕ) → owns (map put_of blocks) d p ≡ layout.has_place (map place_of_block blocks) d p
 owns_of_places [] d p = refl
 owns_of_places (block ∷ blocks) d p = ap (λ (rest : Bool). is_at block.device block.place d p || rest) (owns_of_places blocks d p)
 
@@ -317,7 +317,7 @@ each_reached places (ptr ∷ reach) =
     )
 
 -- so the blocks are at the place of each pointer,
-pub pointers_owned : (devices places : ℕ) (reach : List Ptr) (blocks : List FoundBlock) → ArePtrs devices places reach → map place_of blocks ≡ block_places devices places reach
+pub pointers_owned : (devices places : ℕ) (reach : List Ptr) (blocks : List FoundBlock) → ArePtrs devices places reach → map place_of_block blocks ≡ block_places devices places reach
     → AllByRecursion (λ (ptr : Ptr). owns (map put_of blocks) ptr.device ptr.place ≡ true) reach
 pointers_owned devices places reach blocks fits are =
     all_of_two (IsPtr devices places) (λ (ptr : Ptr). is_reached places reach (number_of places ptr.device ptr.place) ≡ true)
@@ -325,14 +325,14 @@ pointers_owned devices places reach blocks fits are =
     (λ ptr is there.
     let number : ℕ = number_of places ptr.device ptr.place in
     let among = reached_is_among places reach (total_of devices places) 0 number (omega arith) (omega (arith, number_low devices places ptr.device ptr.place is.on_device is.in_places)) there in
-    let at_number : layout.has_place (map place_of blocks) (number / places) (number % places) ≡ true = ap (λ (ps : List PlaceAt). layout.has_place ps (number / places) (number % places)) are ∙ among in
+    let at_number : layout.has_place (map place_of_block blocks) (number / places) (number % places) ≡ true = ap (λ (ps : List PlaceAt). layout.has_place ps (number / places) (number % places)) are ∙ among in
     owns_of_places blocks ptr.device ptr.place
-    ∙ sym (ap₂ (layout.has_place (map place_of blocks)) (device_of_number devices places ptr is) (place_of_number devices places ptr is)) ∙ at_number)
+    ∙ sym (ap₂ (layout.has_place (map place_of_block blocks)) (device_of_number devices places ptr is) (place_of_number devices places ptr is)) ∙ at_number)
     fits (each_reached places reach)
 
 -- and their bytes there are the image's
 pub bytes_of_pointers : (devices places : ℕ) (image : Image) (reach : List Ptr) (blocks : List FoundBlock) → ArePtrs devices places reach
-    → map place_of blocks ≡ block_places devices places reach → Holds image (map put_of blocks)
+    → map place_of_block blocks ≡ block_places devices places reach → Holds image (map put_of blocks)
     → AllByRecursion (λ (ptr : Ptr). bytes_in blocks ptr.device ptr.place ≡ image ptr.device ptr.place) reach
 bytes_of_pointers devices places image reach blocks fits are holds =
     all_mapped (λ (ptr : Ptr). owns (map put_of blocks) ptr.device ptr.place ≡ true) (λ (ptr : Ptr). bytes_in blocks ptr.device ptr.place ≡ image ptr.device ptr.place) reach
@@ -340,7 +340,7 @@ bytes_of_pointers devices places image reach blocks fits are holds =
 
 -- the blocks of a pool: what is read are the blocks of its places, with their digests, and the image holds them
 pub record AreBlocksOf (devices places : ℕ) (image : Image) (reach : List Ptr) (blocks : List FoundBlock) : Type 0 where
-  pub places_are : map place_of blocks ≡ block_places devices places reach
+  pub places_are : map place_of_block blocks ≡ block_places devices places reach
   pub digests : AllByRecursion (HasDigest blocks) reach
   pub holds : Holds image (map put_of blocks)
 

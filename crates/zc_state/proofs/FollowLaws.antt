@@ -11,7 +11,7 @@ use Rattle.zc_tape.specs.Tape.{Image}
 use Rattle.zc_tape.proofs.Places.{not_true, both_false}
 use Rattle.zc_catalog.specs.Chain.{last_link, inner_link, link_before, links, next_in}
 use Rattle.zc_catalog.proofs.ChainLaws.{inner_names_next}
-use Rattle.zc_damage.specs.Places.{number_of, has_place}
+use Rattle.zc_damage.specs.Places.{number_of, chain_has}
 use Rattle.zc_layout.specs.Layout.{Holds, at_places}
 use Rattle.zc_state.specs.State.{IsFree, AreChainPlaces}
 use Rattle.zc_state.specs.Reading.{may_follow, is_last, joined, follow}
@@ -24,17 +24,17 @@ AreBlocksAt image places = AllByRecursion (λ (at : PlaceAt). IsBlock (image at.
 
 -- none of the places is one of these
 abbrev pub AreUnseen : (places : ℕ) → List PlaceAt → List PlaceAt → Type 0
-AreUnseen places seen chain = AllByRecursion (λ (at : PlaceAt). has_place places seen (number_of places at.device at.place) ≡ false) chain
+AreUnseen places seen chain = AllByRecursion (λ (at : PlaceAt). chain_has places seen (number_of places at.device at.place) ≡ false) chain
 
 -- ---- places that may be followed
 
 -- a place that may be followed is free, and is none of those before it
 pub may_follow_means : (devices places : ℕ) (seen : List PlaceAt) (at : PlaceAt) → may_follow devices places seen at ≡ true
-    → IsFree devices places at × (has_place places seen (number_of places at.device at.place) ≡ false)
+    → IsFree devices places at × (chain_has places seen (number_of places at.device at.place) ≡ false)
 may_follow_means devices places seen at e =
     let there : Bool = ltb at.device devices && ltb at.place places in
     let fixed : Bool = is_fixed devices places at.device at.place in
-    let again : Bool = has_place places seen (number_of places at.device at.place) in
+    let again : Bool = chain_has places seen (number_of places at.device at.place) in
     let both = and_parts there (not (fixed || again)) e in
     let ranges = and_parts (ltb at.device devices) (ltb at.place places) both.0 in
     let neither = or_parts fixed again (not-true (fixed || again) both.1) in (
@@ -51,11 +51,11 @@ may_follow_means devices places seen at e =
     clash false holds fails = absurd cc
 
 -- and such a place may be followed
-pub may_follow_again : (devices places : ℕ) (seen : List PlaceAt) (at : PlaceAt) → IsFree devices places at → has_place places seen (number_of places at.device at.place) ≡ false
+pub may_follow_again : (devices places : ℕ) (seen : List PlaceAt) (at : PlaceAt) → IsFree devices places at → chain_has places seen (number_of places at.device at.place) ≡ false
     → may_follow devices places seen at ≡ true
 may_follow_again devices places seen at free unseen =
     let fixed : Bool = is_fixed devices places at.device at.place in
-    let again : Bool = has_place places seen (number_of places at.device at.place) in
+    let again : Bool = chain_has places seen (number_of places at.device at.place) in
     let not_fixed : fixed ≡ false = not_true fixed (λ is.
     let both = and_parts (eqb at.device 0) _ is in free.not_fixed (eqb-true at.device 0 both.0, ltb-true _ _ both.1)) in
     and_from _ _ (and_from _ _ (lt-ltb at.device devices free.device) (lt-ltb at.place places free.place)) (ap not (both_false fixed again not_fixed unseen))
@@ -70,18 +70,18 @@ apart a b e = ne_eqb b a (λ same. absurd (clash (eqb a b) (eq-eqb a b (sym same
   clash false holds fails = absurd cc
 
 -- what isn't among one place and others isn't among the others
-pub unseen_behind : (places : ℕ) (at : PlaceAt) (seen chain : List PlaceAt) → AreUnseen places (at ∷ seen) chain → AreUnseen places seen chain
-unseen_behind places at seen [] unseen = tt
-unseen_behind places at seen (next ∷ chain) unseen = ((or_parts _ _ unseen.0).1, unseen_behind places at seen chain unseen.1)
+pub unseen_after : (places : ℕ) (at : PlaceAt) (seen chain : List PlaceAt) → AreUnseen places (at ∷ seen) chain → AreUnseen places seen chain
+unseen_after places at seen [] unseen = tt
+unseen_after places at seen (next ∷ chain) unseen = ((or_parts _ _ unseen.0).1, unseen_after places at seen chain unseen.1)
 
 -- nor is it the one, so that one isn't among them
-pub unseen_apart : (places : ℕ) (at : PlaceAt) (seen chain : List PlaceAt) → AreUnseen places (at ∷ seen) chain → has_place places chain (number_of places at.device at.place) ≡ false
+pub unseen_apart : (places : ℕ) (at : PlaceAt) (seen chain : List PlaceAt) → AreUnseen places (at ∷ seen) chain → chain_has places chain (number_of places at.device at.place) ≡ false
 unseen_apart places at seen [] unseen = refl
 unseen_apart places at seen (next ∷ chain) unseen =
     both_false _ _ (apart (number_of places at.device at.place) (number_of places next.device next.place) (or_parts _ _ unseen.0).0) (unseen_apart places at seen chain unseen.1)
 
 -- the other way
-pub unseen_before : (places : ℕ) (at : PlaceAt) (seen chain : List PlaceAt) → has_place places chain (number_of places at.device at.place) ≡ false → AreUnseen places seen chain → AreUnseen places (at ∷ seen) chain
+pub unseen_before : (places : ℕ) (at : PlaceAt) (seen chain : List PlaceAt) → chain_has places chain (number_of places at.device at.place) ≡ false → AreUnseen places seen chain → AreUnseen places (at ∷ seen) chain
 unseen_before places at seen [] alone unseen = tt
 unseen_before places at seen (next ∷ chain) alone unseen =
     let both = or_parts _ _ alone in
@@ -94,7 +94,7 @@ unseen_by_none places (at ∷ chain) = (refl, unseen_by_none places chain)
 
 -- ---- what is followed is a chain
 
--- the places from one on, which has `left` places behind it, are a chain that holds so many bytes, and these are the bytes
+-- the places from one on, which has `left` places after it, are a chain that holds so many bytes, and these are the bytes
 pub record FollowFound (devices places : ℕ) (image : Image) (left : ℕ) (seen : List PlaceAt) (count : ℕ) (at : PlaceAt) (chain : List PlaceAt) (bytes : List ℕ) : Type 0 where
   pub first : slice_get chain 0 ≡ Some at
   pub as_long : length chain ≡ left + 1
@@ -117,12 +117,12 @@ named next bad f = elim next [ None ↦ Err bad | Some at ↦ f at ]
 abbrev mapped : {A B E : Type 0} → (A → B) → Result A E → Result B E
 mapped f r = elim r [ Ok x ↦ Ok (f x) | Err bad ↦ Err bad ]
 
--- the answer behind a next place
+-- the answer after a next place
 named_ok : {A E : Type 0} (next : Option PlaceAt) (bad : E) (f : PlaceAt → Result A E) (y : A) → named next bad f ≡ Ok y → (at : PlaceAt) × (next ≡ Some at) × (f at ≡ Ok y)
 named_ok None bad f y e = absurd cc
 named_ok (Some at) bad f y e = (at, refl, e)
 
--- the answer behind the rest of a chain
+-- the answer after the rest of a chain
 rest_ok : {A B E : Type 0} (r : Result A E) (f : A → B) (y : B) → mapped f r ≡ Ok y → (x : A) × (r ≡ Ok x) × (f x ≡ y)
 rest_ok (Ok x) f y e = (x, refl, cc)
 rest_ok (Err bad) f y e = absurd cc
@@ -166,15 +166,15 @@ follow_found devices places image (suc left) index seen count at x e blocks more
     let whole : length (drop 8 block) ≡ 4088 = omega (arith, length-drop 8 block, here.0.0) in
     let bytes : List ℕ = drop 8 block ++ rest.1 in
     let link : block ≡ link_before rest.0 bytes = inner_is_link block rest.1 next here.0 step.1 ∙ sym (link_of_first rest.0 next bytes found.first) in
-    let behind_block : rest.1 ≡ drop 4088 bytes = sym (drop_at (drop 8 block) rest.1 4088 whole) in
+    let after_block : rest.1 ≡ drop 4088 bytes = sym (drop_at (drop 8 block) rest.1 4088 whole) in
     let made : FollowFound devices places image (suc left) seen count at (at ∷ rest.0) bytes = record {
       first = refl;
       as_long = omega (arith, found.as_long);
       chain_places = (free.0, unseen_apart places at seen rest.0 found.unseen, found.chain_places);
-      unseen = (free.1, unseen_behind places at seen rest.0 found.unseen);
+      unseen = (free.1, unseen_after places at seen rest.0 found.unseen);
       all_bytes = omega (arith, length-append (drop 8 block) rest.1, whole, found.all_bytes);
       are_bytes = bytes_joined (drop 8 block) rest.1 (bytes_dropped 8 block here.0.1) found.are_bytes;
-      holds = (link, subst (λ (others : List ℕ). Holds image (at_places rest.0 (links rest.0 others))) behind_block found.holds);
+      holds = (link, subst (λ (others : List ℕ). Holds image (at_places rest.0 (links rest.0 others))) after_block found.holds);
     } in
     subst (λ (y : List PlaceAt × List ℕ). FollowFound devices places image (suc left) seen count at y.0 y.1) is_found made
 

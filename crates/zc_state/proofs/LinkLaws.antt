@@ -1,4 +1,4 @@
--- The blocks of a chain: a block that names a next place, or none, is a link over the bytes behind the name.
+-- The blocks of a chain: a block that names a next place, or none, is a link over the bytes after the name.
 use Rattle.std.proofs.Common.{◌≡◌, ◌∙◌, ℕ, zero, suc, ◌+◌, ◌-◌, ◌≤◌, Bool, true, false, eqb, List, [], ◌∷◌, ◌++◌, length, take, drop, replicate, Option, Some, None, refl, sym, ap, length-append, arith}
 use Rattle.std.specs.List.{list_all}
 use Rattle.std.proofs.lemmas.Bool.{eqb-true, and_parts}
@@ -63,22 +63,22 @@ inner_is_link block rest next is e =
 
 -- ---- a link is such a block
 
--- what stands behind the name of the last link
-behind_mark : (bytes : List ℕ) → drop 8 (last_link bytes) ≡ bytes ++ replicate (4088 - length bytes) 0
+-- what stands after the name of the last link
+after_mark : (bytes : List ℕ) → drop 8 (last_link bytes) ≡ bytes ++ replicate (4088 - length bytes) 0
 unfolding last_link end_mark
-behind_mark bytes = drop_at end_mark (bytes ++ replicate (4088 - length bytes) 0) 8 (omega (arith, length-append (u32_bytes 4294967295) (u32_bytes 4294967295), u32_bytes_length 4294967295))
+after_mark bytes = drop_at end_mark (bytes ++ replicate (4088 - length bytes) 0) 8 (omega (arith, length-append (u32_bytes 4294967295) (u32_bytes 4294967295), u32_bytes_length 4294967295))
 
 -- the last link ends a chain
 pub link_is_last : (bytes : List ℕ) → is_last (length bytes) (last_link bytes) ≡ true
 link_is_last bytes =
     let behind : List ℕ = replicate (4088 - length bytes) 0 in
     let back : drop (8 + length bytes) (last_link bytes) ≡ behind =
-    sym (drop-drop (length bytes) 8 (last_link bytes)) ∙ ap (drop (length bytes)) (behind_mark bytes) ∙ drop_at bytes behind (length bytes) refl in
+    sym (drop-drop (length bytes) 8 (last_link bytes)) ∙ ap (drop (length bytes)) (after_mark bytes) ∙ drop_at bytes behind (length bytes) refl in
     ends_again (next_in (last_link bytes)) _ (last_names_none bytes) (ap (list_all (λ byte. eqb byte 0)) back ∙ are_zeros (4088 - length bytes))
 
 -- its bytes
 pub bytes_of_last : (bytes : List ℕ) → take (length bytes) (drop 8 (last_link bytes)) ≡ bytes
-bytes_of_last bytes = ap (take (length bytes)) (behind_mark bytes) ∙ take_at bytes (replicate (4088 - length bytes) 0) (length bytes) refl
+bytes_of_last bytes = ap (take (length bytes)) (after_mark bytes) ∙ take_at bytes (replicate (4088 - length bytes) 0) (length bytes) refl
 
 -- the bytes of a link before others
 pub bytes_of_inner : (next : PlaceAt) (bytes : List ℕ) → drop 8 (inner_link next bytes) ≡ take 4088 bytes

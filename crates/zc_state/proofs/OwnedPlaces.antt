@@ -15,12 +15,12 @@ use Rattle.zc_tree.specs.Catalogue.{catalogue_bytes}
 use Rattle.zc_catalog.specs.Chain.{links}
 use Rattle.zc_damage.specs.declared.block.FoundBlock.{FoundBlock}
 use Rattle.zc_damage.specs.Words.{first_from}
-use Rattle.zc_damage.specs.Places.{number_of, is_to, pointers_to, is_reached, has_place, is_owned, is_allocated, bytes_in}
+use Rattle.zc_damage.specs.Places.{number_of, is_to, pointers_to, is_reached, chain_has, is_owned, is_allocated, bytes_in}
 use Rattle.zc_damage.specs.Checks.{owners_of, owner_hit_in, owner_hit_at, owner_hit, one_if, map_hit_at}
 use Rattle.zc_layout.specs.Layout as layout
 use Rattle.zc_layout.specs.Layout.{Put, IsAmong, owns, AreDistinct, AreApart, NotAtRoots, at_places}
-use Rattle.zc_layout.proofs.LayoutLaws.{among_back, owns_first, owns_behind, owns_append, owns_at_places_within, distinct_at_places}
-use Rattle.zc_state.specs.State.{State, IsState, IsFree, AreChainPlaces, layout, put_of, place_at, place_of, block_places}
+use Rattle.zc_layout.proofs.LayoutLaws.{among_back, owns_first, owns_after, owns_append, owns_at_places_within, distinct_at_places}
+use Rattle.zc_state.specs.State.{State, IsState, IsFree, AreChainPlaces, layout, put_of, place_at, place_of_block, block_places}
 use Rattle.zc_state.proofs.Steps.{none_of_choice, when_none, not_false}
 use Rattle.zc_state.proofs.Pointers.{ArePtrs, parts_have_ptrs}
 use Rattle.zc_state.proofs.BlockLaws.{number_low, unreached, reached_from, owns_of_places, all_mapped, pointers_owned}
@@ -29,7 +29,7 @@ use Rattle.zc_state.proofs.BlockLaws.{number_low, unreached, reached_from, owns_
 
 -- a place of the chain is free, and the catalogue has it by its number
 chain_place : (devices places : ℕ) (chain : List PlaceAt) (d p : ℕ) → AreChainPlaces devices places chain → layout.has_place chain d p ≡ true
-    → IsFree devices places (record { device = d; place = p }) × (has_place places chain (number_of places d p) ≡ true)
+    → IsFree devices places (record { device = d; place = p }) × (chain_has places chain (number_of places d p) ≡ true)
 chain_place devices places [] d p are there = absurd (true≢false (sym there))
 chain_place devices places (at ∷ chain) d p are there =
     ⊎_elim
@@ -45,7 +45,7 @@ chain_place devices places (at ∷ chain) d p are there =
     (or_cases (is_at at.device at.place d p) (layout.has_place chain d p) there)
 
 -- a place that the catalogue hasn't by its number is none of the chain's
-chain_lacks : (places : ℕ) (chain : List PlaceAt) (d p : ℕ) → has_place places chain (number_of places d p) ≡ false → layout.has_place chain d p ≡ false
+chain_lacks : (places : ℕ) (chain : List PlaceAt) (d p : ℕ) → chain_has places chain (number_of places d p) ≡ false → layout.has_place chain d p ≡ false
 chain_lacks places [] d p none = refl
 chain_lacks places (at ∷ chain) d p none =
     let both = or_parts _ _ none in
@@ -134,7 +134,7 @@ blocks_apart places reach (suc left) number some = at (is_reached places reach n
   at false behind = behind
 
 -- blocks at places of which no two are one
-blocks_distinct : (blocks : List FoundBlock) → AreApart (map place_of blocks) → AreDistinct (map put_of blocks)
+blocks_distinct : (blocks : List FoundBlock) → AreApart (map place_of_block blocks) → AreDistinct (map put_of blocks)
 blocks_distinct [] apart = tt
 blocks_distinct (block ∷ blocks) apart = (owns_of_places blocks block.device block.place ∙ apart.0, blocks_distinct blocks apart.1)
 
@@ -158,10 +158,10 @@ no_owner places number false (ptr ∷ ptrs) none is = absurd (true≢false (sym 
 
 -- no pointer is to a place of the chain
 pub chain_unreached : (devices places : ℕ) (chain : List PlaceAt) (reach : List Ptr) (number : ℕ) → owner_hit devices places chain reach ≡ None → number < total_of devices places
-    → has_place places chain number ≡ true → is_reached places reach number ≡ false
+    → chain_has places chain number ≡ true → is_reached places reach number ≡ false
 chain_unreached devices places chain reach number none low is =
     let here = none_from (owner_hit_at places chain reach) 0 (total_of devices places) none number (omega arith) (omega arith) in
-    unreached places reach number (no_owner places number (has_place places chain number) (pointers_to places reach number) here is)
+    unreached places reach number (no_owner places number (chain_has places chain number) (pointers_to places reach number) here is)
 
 -- the maps say of each place whether it is owned
 one_if_same : (a b : Bool) → one_if a ≡ one_if b → a ≡ b
@@ -189,7 +189,7 @@ chain_puts s = at_places s.chain (links s.chain (catalogue_bytes s.parts))
 
 -- a place of the chain's part
 chain_put : (shape : Shape) (s : State) (d p : ℕ) → IsState shape s → owns (chain_puts s) d p ≡ true
-    → IsFree shape.devices shape.places (record { device = d; place = p }) × (has_place shape.places s.chain (number_of shape.places d p) ≡ true)
+    → IsFree shape.devices shape.places (record { device = d; place = p }) × (chain_has shape.places s.chain (number_of shape.places d p) ≡ true)
 chain_put shape s d p is there =
     chain_place shape.devices shape.places s.chain d p is.chain_places
     (at (layout.has_place s.chain d p) refl)
@@ -218,10 +218,10 @@ owned_means shape s d p is there =
     ⊎_elim
     (λ (here : owns (chain_puts s) d p ≡ true).
     let found = chain_put shape s d p is here in
-    (found.0, or_right reached (has_place shape.places s.chain number || fixed) (or_left (has_place shape.places s.chain number) fixed found.1)))
+    (found.0, or_right reached (chain_has shape.places s.chain number || fixed) (or_left (chain_has shape.places s.chain number) fixed found.1)))
     (λ (here : owns (map put_of s.blocks) d p ≡ true).
     let found = block_put shape s d p is here in
-    (found.0, or_left reached (has_place shape.places s.chain number || fixed) found.1))
+    (found.0, or_left reached (chain_has shape.places s.chain number || fixed) found.1))
     (or_cases (owns (chain_puts s) d p) (owns (map put_of s.blocks) d p) (sym (owns_append (chain_puts s) (map put_of s.blocks) d p) ∙ there))
 
 -- a place that isn't owned by the checks' word isn't in the layout
@@ -249,7 +249,7 @@ both_distinct : (xs ys : List Put) → AreDistinct xs → AreDistinct ys → ((d
 both_distinct [] ys first second beside = second
 both_distinct (put ∷ xs) ys first second beside = (
   owns_append xs ys put.at.device put.at.place ∙ both_false _ _ first.0 (beside put.at.device put.at.place (owns_first put xs)),
-  both_distinct xs ys first.1 second (λ d p there. beside d p (owns_behind put xs d p there)),
+  both_distinct xs ys first.1 second (λ d p there. beside d p (owns_after put xs d p there)),
 )
 
 -- no two puts of the layout are at one place

@@ -1,4 +1,4 @@
--- The state of a pool: what is read behind a root is a state that the image holds, and a state that it holds is read.
+-- The state of a pool: what is read after a root is a state that the image holds, and a state that it holds is read.
 use Rattle.std.proofs.Common.{◌≡◌, ◌∙◌, ℕ, ◌&&◌, not, eqb, List, [], map, length, None, Result, Ok, Err, refl, sym, ap, subst}
 use Rattle.std.proofs.lemmas.Bool.{and_parts, and_from, eqb-true, eq-eqb}
 use Rattle.std.proofs.lemmas.Slice.Eq.{bytes_eq-Decides}
@@ -127,8 +127,8 @@ late_again devices places parts chain bytes_at are = no_choice _ _ are.tails (no
 abbrev pub HasChainBlocks : Image → State → Type 0
 HasChainBlocks image s = AreBlocksAt image s.chain
 
--- behind the body stands the state: its values agree, an import takes it, and the image holds it
-pub record StandsBehind (shape : Shape) (image : Image) (body : Body) (s : State) : Type 0 where
+-- after the body stands the state: its values agree, an import takes it, and the image holds it
+pub record StandsAfter (shape : Shape) (image : Image) (body : Body) (s : State) : Type 0 where
   pub state : IsState shape s
   pub fresh : IsFresh s
   pub body_is : s.body ≡ body
@@ -172,9 +172,9 @@ state_parts shape image body s e =
       made = ok_is (record { body = body; chain = found.0.0; parts = parts.0; blocks = blocks.0 }) s late.1;
     }
 
--- what is read behind a body is a fresh state that the image holds
+-- what is read after a body is a fresh state that the image holds
 pub read_found : (shape : Shape) (image : Image) (body : Body) (s : State) → AreLimits shape.devices shape.places → IsBody body
-    → read_state shape image body ≡ Ok s → HasChainBlocks image s → StandsBehind shape image body s
+    → read_state shape image body ≡ Ok s → HasChainBlocks image s → StandsAfter shape image body s
 read_found shape image body s limits is_body e whole =
     let p = state_parts shape image body s e in
     let chain_blocks : AreBlocksAt image p.found.0 = subst (HasChainBlocks image) (sym p.made) whole in
@@ -213,7 +213,7 @@ read_found shape image body s limits is_body e whole =
       maps = late.maps;
       charge = late.charge;
     } in
-    subst (StandsBehind shape image body) p.made (record {
+    subst (StandsAfter shape image body) p.made (record {
       state = is_state;
       fresh = early.worn;
       body_is = refl;
@@ -261,7 +261,7 @@ parts_are_read shape image s is holds =
           (record { places_are = is.blocks; digests = is.digests; holds = both.1 });
     }
 
--- a fresh state that the image holds is read behind its body
+-- a fresh state that the image holds is read after its body
 pub read_only : (shape : Shape) (image : Image) (s : State) → IsState shape s → IsFresh s → Holds image (layout s) → read_state shape image s.body ≡ Ok s
 unfolding read_state
 read_only shape image s is fresh holds =
@@ -278,15 +278,15 @@ read_only shape image s is fresh holds =
     (late_again shape.devices shape.places s.parts s.chain (bytes_in s.blocks) (record { tails = is.tails; counts = is.counts; regions = is.regions; maps = is.maps; charge = is.charge }))
     refl))))))
 
--- so where a damage is read, no fresh state stands behind that root
-pub read_damaged : (shape : Shape) (image : Image) (body : Body) (damage : Damage) → read_state shape image body ≡ Err damage → (s : State) → StandsBehind shape image body s → ⊥
+-- so where a damage is read, no fresh state stands after that root
+pub read_damaged : (shape : Shape) (image : Image) (body : Body) (damage : Damage) → read_state shape image body ≡ Err damage → (s : State) → StandsAfter shape image body s → ⊥
 read_damaged shape image body damage e s stands =
     let read : read_state shape image body ≡ Ok s = ap (read_state shape image) (sym stands.body_is) ∙ read_only shape image s stands.state stands.fresh stands.holds in
     absurd cc
 
 -- and where none stands there, a damage is read, if each block of the chain that is read has 4,096 bytes
 pub damaged_is_read : (shape : Shape) (image : Image) (body : Body) → AreLimits shape.devices shape.places → IsBody body
-    → ((s : State) → read_state shape image body ≡ Ok s → HasChainBlocks image s) → ((s : State) → StandsBehind shape image body s → ⊥)
+    → ((s : State) → read_state shape image body ≡ Ok s → HasChainBlocks image s) → ((s : State) → StandsAfter shape image body s → ⊥)
     → (damage : Damage) × (read_state shape image body ≡ Err damage)
 damaged_is_read shape image body limits is_body whole none = at (read_state shape image body) refl where
   at : (r : Result State Damage) → read_state shape image body ≡ r → (damage : Damage) × (read_state shape image body ≡ Err damage)

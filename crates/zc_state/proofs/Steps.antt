@@ -42,7 +42,7 @@ clear_hit_ok (Some hit) f y e = absurd cc
 pub clear_hit_again : {B : Type 0} (hit : Option Hit) (f : Unit {0} → Result B Damage) (y : Result B Damage) → hit ≡ None → f tt ≡ y → (clear_hit hit >>= f) ≡ y
 clear_hit_again {B} hit f y none on = ap (λ (h : Option Hit). clear_hit h >>= f) none ∙ on
 
--- the value behind a test that has to hold
+-- the value after a test that has to hold
 pub if_ok : {A E : Type 0} (test : Bool) (r : Result A E) (bad : E) (y : A) → cond test r (Err bad) ≡ Ok y → (test ≡ true) × (r ≡ Ok y)
 if_ok true r bad y e = (refl, e)
 if_ok false r bad y e = absurd cc

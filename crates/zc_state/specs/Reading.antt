@@ -1,4 +1,4 @@
--- How an image is read: the state that it holds behind a root, or the first damage, in the order of the checks.
+-- How an image is read: the state that it holds after a root, or the first damage, in the order of the checks.
 use Rattle.std.specs.Prelude.{ℕ, zero, suc, ◌+◌, ◌-◌, ◌*◌, ◌/◌, ◌%◌, ◌^◌, ◌==◌, ◌&&◌, ◌||◌, Bool, false, not, nat_lt, List, [], ◌∷◌, ◌++◌, length, take, drop, Option, Some, None, Result, Ok, Err, if◌then◌else◌}
 use Rattle.std.specs.List.{list_all}
 use Rattle.std.specs.Str.{bytes_eq}
@@ -19,7 +19,7 @@ use Rattle.zc_damage.specs.declared.damage.Hit.{Hit}
 use Rattle.zc_damage.specs.declared.damage.Damage.{Damage}
 use Rattle.zc_damage.specs.declared.damage.DamageKind.TheVariants.{Geometry, Chain, Digest, Catalogue, Block}
 use Rattle.zc_damage.specs.Words.{when, first_of}
-use Rattle.zc_damage.specs.Places.{pointers_to, has_place, bytes_in}
+use Rattle.zc_damage.specs.Places.{pointers_to, chain_has, bytes_in}
 use Rattle.zc_damage.specs.Checks.{damage_of, early_hit, late_hit}
 use Rattle.zc_state.specs.State.{State}
 
@@ -66,12 +66,12 @@ first_place body = record { device = body.first_device; place = body.first_place
 abbrev pub chain_damage : Body → PlaceAt → ℕ → Damage
 chain_damage body at index = damage_of (record { kind = Chain; device = at.device; place = at.place; kept = body.chain; found = index })
 
--- a chain behind these places may go on there: the place is there, isn't fixed, and isn't among them
+-- a chain after these places may go on there: the place is there, isn't fixed, and isn't among them
 abbrev pub may_follow : (devices places : ℕ) → List PlaceAt → PlaceAt → Bool
 may_follow devices places seen at =
-    (nat_lt at.device devices && nat_lt at.place places) && not (is_fixed devices places at.device at.place || has_place places seen (at.device * places + at.place))
+    (nat_lt at.device devices && nat_lt at.place places) && not (is_fixed devices places at.device at.place || chain_has places seen (at.device * places + at.place))
 
--- a block is the last of a chain: it has the end mark, and zeros behind so many bytes
+-- a block is the last of a chain: it has the end mark, and zeros after so many bytes
 abbrev pub is_last : ℕ → List ℕ → Bool
 is_last count block = elim (next_in block) [ None ↦ list_all (λ byte. byte == 0) (drop (8 + count) block) | Some next ↦ false ]
 
@@ -79,7 +79,7 @@ is_last count block = elim (next_in block) [ None ↦ list_all (λ byte. byte ==
 abbrev pub joined : PlaceAt → List ℕ → List PlaceAt × List ℕ → List PlaceAt × List ℕ
 joined at bytes rest = (at ∷ rest.0, bytes ++ rest.1)
 
--- the places of a chain from this one on, which has `left` places behind it and holds so many bytes, and the bytes; or the place at
+-- the places of a chain from this one on, which has `left` places after it and holds so many bytes, and the bytes; or the place at
 -- which it is none, with its number in the whole chain. `index` places stand before it, which are `seen`.
 unfoldable pub follow : (devices places : ℕ) → Image → (left index : ℕ) → List PlaceAt → ℕ → PlaceAt → Result (List PlaceAt × List ℕ) (PlaceAt × ℕ)
 follow devices places image zero index seen count at =
@@ -155,7 +155,7 @@ blocks_of devices places image reach = blocks_from places image reach (total_of 
 
 -- ---- all of it
 
--- what stands behind the root with this body
+-- what stands after the root with this body
 unfoldable pub read_state : Shape → Image → Body → Result State Damage
 read_state shape image body = do
   _ ← clear_hit (geometry_hit shape body)

@@ -16,7 +16,7 @@ use Rattle.zc_catalog.specs.Chain.{chain_length, links}
 use Rattle.zc_layout.specs.Layout.{Put, at_places}
 use Rattle.zc_layout.specs.Standing.{Standing, Stands}
 use Rattle.zc_damage.specs.declared.block.FoundBlock.{FoundBlock}
-use Rattle.zc_damage.specs.Places.{is_reached, has_place, bytes_in}
+use Rattle.zc_damage.specs.Places.{is_reached, chain_has, bytes_in}
 use Rattle.zc_damage.specs.Checks.{worn_hit, birth_hit, log_hit, owner_hit, tail_hit, count_hit, region_hit, map_hit, charge_hit}
 
 -- what an image holds of a pool: the body of its root, the places of the catalogue, what the catalogue says, and each block that a
@@ -53,15 +53,15 @@ pub record IsFree (devices places : ℕ) (at : PlaceAt) : Type 0 where
 abbrev pub AreChainPlaces : (devices places : ℕ) → List PlaceAt → Type 0
 AreChainPlaces devices places [] = Unit {0}
 AreChainPlaces devices places (at ∷ chain) =
-    IsFree devices places at × (has_place places chain (at.device * places + at.place) ≡ false) × AreChainPlaces devices places chain
+    IsFree devices places at × (chain_has places chain (at.device * places + at.place) ≡ false) × AreChainPlaces devices places chain
 
 -- the place with this number
 abbrev pub place_at : (places number : ℕ) → PlaceAt
 place_at places number = record { device = number / places; place = number % places }
 
 -- where the block is
-abbrev pub place_of : FoundBlock → PlaceAt
-place_of block = record { device = block.device; place = block.place }
+abbrev pub place_of_block : FoundBlock → PlaceAt
+place_of_block block = record { device = block.device; place = block.place }
 
 -- the places that the pointers are to, each once, ascending: where the blocks are
 abbrev pub block_places : (devices places : ℕ) → List Ptr → List PlaceAt
@@ -91,7 +91,7 @@ pub record IsState (shape : Shape) (s : State) : Type 0 where
   pub births : birth_hit s.parts.tree.group (pointers_of_tree s.parts.tree) ≡ None
   pub logs : log_hit shape.devices shape.places s.parts.tree.datasets ≡ None
   pub owners : owner_hit shape.devices shape.places s.chain (pointers_of_tree s.parts.tree) ≡ None
-  pub blocks : map place_of s.blocks ≡ block_places shape.devices shape.places (pointers_of_tree s.parts.tree)
+  pub blocks : map place_of_block s.blocks ≡ block_places shape.devices shape.places (pointers_of_tree s.parts.tree)
   pub digests : AllByRecursion (HasDigest s.blocks) (pointers_of_tree s.parts.tree)
   pub tails : tail_hit (bytes_in s.blocks) s.parts.tree.datasets ≡ None
   pub counts : count_hit shape.devices shape.places s.parts.tables (pointers_of_tree s.parts.tree) ≡ None

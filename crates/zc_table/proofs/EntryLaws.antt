@@ -19,7 +19,7 @@ kept_in_front : (test : Bool) (entry : StoredCount) (all front back : List Store
 kept_in_front true entry all front back e = e
 kept_in_front false entry all front back e = ap (λ (es : List StoredCount). entry ∷ es) e
 
--- the entries of counts behind counts
+-- the entries of counts after counts
 entries_append : (first : ℕ) (xs ys : List ℕ) → entries_from first (xs ++ ys) ≡ entries_from first xs ++ entries_from (first + length xs) ys
 unfolding entries_from
 entries_append first [] ys = let same : first ≡ first + 0 = omega arith in ap (λ (k : ℕ). entries_from k ys) same
@@ -40,7 +40,7 @@ no_entries first (x ∷ xs) none =
 
 -- ---- the entries of places
 
--- of some places and of those behind them
+-- of some places and of those after them
 entries_in_more : (counts : List ℕ) (first m n : ℕ) → first + m ≤ length counts → entries_in counts first (m + n) ≡ entries_in counts first m ++ entries_in counts (first + m) n
 entries_in_more counts first m n within =
     let front : List ℕ = take m (drop first counts) in
@@ -99,7 +99,7 @@ entries_used first (x ∷ xs) =
 pub nothing_put : (before : List ℕ) (entries : List StoredCount) → entries ≡ [] → before ≡ before ++ flat_map entry_bytes entries
 nothing_put before entries none = sym (append-nil before) ∙ ap (λ (es : List StoredCount). before ++ flat_map entry_bytes es) (sym none)
 
--- of some places and of those behind them, where the bytes of the first stand behind others
+-- of some places and of those after them, where the bytes of the first stand after others
 pub bytes_in_more : (counts before middle after : List ℕ) (first m at n total : ℕ) → at ≡ first + m → total ≡ m + n → at ≤ length counts
     → middle ≡ before ++ flat_map entry_bytes (entries_in counts first m) → after ≡ middle ++ flat_map entry_bytes (entries_in counts at n)
     → after ≡ before ++ flat_map entry_bytes (entries_in counts first total)
@@ -147,7 +147,7 @@ on_ok (Err e) f p = tt
 pub extends_by : (old more new : List ℕ) → new ≡ old ++ more → Extends old new
 extends_by old more new is = record { more = more; joined = is }
 
--- bytes put behind bytes that were put behind
+-- bytes put after bytes that were put after
 pub extends_on : (old more middle new : List ℕ) → middle ≡ old ++ more → Extends middle new → Extends old new
 extends_on old more middle new is on =
     record { more = more ++ on.more; joined = on.joined ∙ ap (λ (bytes : List ℕ). bytes ++ on.more) is ∙ append_assoc old more on.more }

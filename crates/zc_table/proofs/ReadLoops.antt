@@ -1,7 +1,7 @@
--- Reading items one behind the other, as a loop does.
+-- Reading items one after the other, as a loop does.
 use Rattle.std.proofs.Common.{◌≡◌, ◌∙◌, ℕ, suc, ◌+◌, ◌-◌, ◌<◌, ◌≤◌, List, [], ◌∷◌, ◌++◌, Ok, Err, refl, sym, ap, append_assoc, arith}
 use Rattle.std.proofs.lemmas.List.{append-nil}
-use Rattle.zc_wire.specs.Fields.{Read, ◌>>=◌, Fails, u32_field}
+use Rattle.zc_wire.specs.Fields.{Read, ◌>>=◌, FieldFails, u32_field}
 use Rattle.zc_wire.specs.declared.fields.FieldFault.{FieldFault}
 use Rattle.zc_wire.specs.declared.fields.FieldFault.TheVariants as field
 use Rattle.zc_table.specs.declared.stored.StoredCount.{StoredCount}
@@ -35,7 +35,7 @@ entry_goes_on devices places device number i least front bytes entry after total
 
 -- a turn that fails
 pub entry_ends : (fault : FieldFault) (devices places device number i least : ℕ) (front : List StoredCount) (bytes : List ℕ) (total : Read (List StoredCount)) → i < number
-    → Fails fault (entry_field devices places device least bytes) → with_front front (entries_field devices places device (number - i) least bytes) ≡ total → Fails fault total
+    → FieldFails fault (entry_field devices places device least bytes) → with_front front (entries_field devices places device (number - i) least bytes) ≡ total → FieldFails fault total
 unfolding entries_field
 entry_ends field.NoMemory devices places device number i least front bytes total within read so_far = tt
 entry_ends (field.Bad left) devices places device number i least front bytes total within read so_far =
@@ -70,8 +70,8 @@ counter_goes_on number i front bytes counter after total within read so_far =
     sym one ∙ so_far
 
 -- a turn that fails
-pub counter_ends : (fault : FieldFault) (number i : ℕ) (front bytes : List ℕ) (total : Read (List ℕ)) → i < number → Fails fault (u32_field bytes)
-    → with_front front (counters_field (number - i) bytes) ≡ total → Fails fault total
+pub counter_ends : (fault : FieldFault) (number i : ℕ) (front bytes : List ℕ) (total : Read (List ℕ)) → i < number → FieldFails fault (u32_field bytes)
+    → with_front front (counters_field (number - i) bytes) ≡ total → FieldFails fault total
 unfolding counters_field
 counter_ends field.NoMemory number i front bytes total within read so_far = tt
 counter_ends (field.Bad left) number i front bytes total within read so_far =

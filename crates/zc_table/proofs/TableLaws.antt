@@ -9,7 +9,7 @@ use Rattle.std.proofs.lemmas.List.Concat.{flat_map-cons}
 use Rattle.zc_num.specs.Limits.{AreLimits, IsFixed, is_fixed, log_places_of}
 use Rattle.zc_wire.specs.Numbers.{u32_bytes, IsBytes}
 use Rattle.zc_wire.specs.declared.fault.CatalogFault.{CatalogFault}
-use Rattle.zc_wire.specs.Fields.{Read, Answers, ◌>>=◌, u32_field, rule}
+use Rattle.zc_wire.specs.Fields.{Read, FieldAnswers, ◌>>=◌, u32_field, rule}
 use Rattle.zc_wire.proofs.FieldLaws.{ok_is, bind_ok, rule_ok, rule_again, Takes, takes_then, takes_none, takes_length, u32_takes, u32_again}
 use Rattle.zc_table.specs.declared.stored.StoredCount.{StoredCount}
 use Rattle.zc_table.specs.declared.stored.StoredTable.{StoredTable}
@@ -196,7 +196,7 @@ places_few devices places limits =
 -- ---- what a reader answers
 
 -- where it is Ok, the bytes begin with the spelling of the table
-pub is_found : (devices places device : ℕ) (bytes : List ℕ) (result : Result (StoredTable × ℕ) CatalogFault) → IsBytes bytes → Answers (length bytes) result (table_field devices places device bytes)
+pub is_found : (devices places device : ℕ) (bytes : List ℕ) (result : Result (StoredTable × ℕ) CatalogFault) → IsBytes bytes → FieldAnswers (length bytes) result (table_field devices places device bytes)
     → IfOk result (λ x. IsTable devices places device x.0 × (x.1 ≡ length (table_bytes x.0)) × (bytes ≡ table_bytes x.0 ++ drop x.1 bytes))
 is_found devices places device bytes (Ok x) fits answer =
     let text : List ℕ = table_bytes x.0 in
@@ -207,12 +207,12 @@ is_found devices places device bytes (Ok x) fits answer =
 is_found devices places device bytes (Err fault) fits answer = tt
 
 -- bytes that begin with the spelling of a table are read as that table
-pub is_read : (devices places device : ℕ) (bytes : List ℕ) (result : Result (StoredTable × ℕ) CatalogFault) → AreLimits devices places → Answers (length bytes) result (table_field devices places device bytes)
-    → (table : StoredTable) (rest : List ℕ) → IsTable devices places device table → bytes ≡ table_bytes table ++ rest → Answers (length bytes) result (Ok (table, rest))
+pub is_read : (devices places device : ℕ) (bytes : List ℕ) (result : Result (StoredTable × ℕ) CatalogFault) → AreLimits devices places → FieldAnswers (length bytes) result (table_field devices places device bytes)
+    → (table : StoredTable) (rest : List ℕ) → IsTable devices places device table → bytes ≡ table_bytes table ++ rest → FieldAnswers (length bytes) result (Ok (table, rest))
 is_read devices places device bytes result limits answer table rest fits spelled =
-    subst (λ (read : Read StoredTable). Answers (length bytes) result read) (ap (table_field devices places device) spelled ∙ table_again devices places device table rest (places_few devices places limits) fits) answer
+    subst (λ (read : Read StoredTable). FieldAnswers (length bytes) result read) (ap (table_field devices places device) spelled ∙ table_again devices places device table rest (places_few devices places limits) fits) answer
 
--- what is left behind a table is no longer than the bytes
+-- what is left after a table is no longer than the bytes
 pub rest_within : (devices places device : ℕ) (bytes : List ℕ) (table : StoredTable) (rest : List ℕ) → IsBytes bytes → table_field devices places device bytes ≡ Ok (table, rest) → length rest ≤ length bytes
 rest_within devices places device bytes table rest fits read =
     let found = table_takes devices places device bytes table rest fits read in

@@ -18,8 +18,6 @@ mod reading;
 mod steps;
 mod stored;
 mod table;
-#[cfg(test)]
-mod tests;
 mod writing;
 
 pub use plain::PlainTable;

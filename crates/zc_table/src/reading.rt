@@ -1,6 +1,6 @@
 // The table that bytes spell.
 ghost use Rattle.std.specs.Prelude.{◌≡◌, ℕ, List, ◌<◌, ◌/◌, ◌++◌, length, drop, Ok, IfOk};
-ghost use Rattle.zc_wire.specs.Fields.{Gives, Answers};
+ghost use Rattle.zc_wire.specs.Fields.{FieldGives, FieldAnswers};
 ghost use Rattle.zc_table.specs.declared.stored.StoredTable.{StoredTable};
 ghost use Rattle.zc_table.specs.TableBytes.{IsTable, table_bytes, table_field, entry_field, entries_field, counters_field};
 
@@ -23,8 +23,8 @@ pub fn read_table(
     ensures found { IfOk result (λ x. IsTable limits.now.devices limits.now.places device x.0
         × (x.1 ≡ length (table_bytes x.0)) × (bytes.now ≡ table_bytes x.0 ++ drop x.1 bytes.now)) }
     ensures only { (table : StoredTable) (rest : List ℕ) → IsTable limits.now.devices limits.now.places device table
-        → bytes.now ≡ table_bytes table ++ rest → Answers (length bytes.now) result (Ok (table, rest)) }
-    ensures exact { Answers (length bytes.now) result (table_field limits.now.devices limits.now.places device bytes.now) }
+        → bytes.now ≡ table_bytes table ++ rest → FieldAnswers (length bytes.now) result (Ok (table, rest)) }
+    ensures exact { FieldAnswers (length bytes.now) result (table_field limits.now.devices limits.now.places device bytes.now) }
 {
     table_at_front(alloc, bytes, limits, device)
 }
@@ -36,7 +36,7 @@ fn table_at_front(
     limits: &Limits,
     device: u32,
 ) -> Result<(StoredTable, usize), CatalogFault>
-    ensures { Answers (length bytes.now) result (table_field limits.now.devices limits.now.places device bytes.now) }
+    ensures { FieldAnswers (length bytes.now) result (table_field limits.now.devices limits.now.places device bytes.now) }
 {
     match table_field(alloc, bytes, limits, device) {
         Ok((table, rest)) => Ok((table, bytes.len() - rest.len())),
@@ -44,7 +44,7 @@ fn table_at_front(
     }
 }
 
-/// The table of the device at the front of the bytes, and the bytes behind it.
+/// The table of the device at the front of the bytes, and the bytes after it.
 ///
 /// # Errors
 /// Want of memory; or `Bad` at the first field that isn't there whole or breaks a rule.
@@ -55,7 +55,7 @@ pub fn table_field<'a>(
     limits: &Limits,
     device: u32,
 ) -> Result<(StoredTable, &'a [u8]), FieldFault>
-    ensures { Gives (λ x. (x.0, x.1.now)) result (table_field limits.now.devices limits.now.places device bytes.now) }
+    ensures { FieldGives (λ x. (x.0, x.1.now)) result (table_field limits.now.devices limits.now.places device bytes.now) }
 {
     let (number, rest) = u32_field(bytes)?;
     let (entries, rest) = entries_of(alloc, limits, device, number, rest)?;
@@ -63,7 +63,7 @@ pub fn table_field<'a>(
     Ok((StoredTable { entries, regions }, rest))
 }
 
-// So many entries, and the bytes behind them.
+// So many entries, and the bytes after them.
 fn entries_of<'a>(
     alloc: Global,
     limits: &Limits,
@@ -71,7 +71,7 @@ fn entries_of<'a>(
     number: u32,
     bytes: &'a [u8],
 ) -> Result<(Listed<StoredCount>, &'a [u8]), FieldFault>
-    ensures { Gives (λ x. (x.0, x.1.now)) result (entries_field limits.now.devices limits.now.places device number 0 bytes.now) }
+    ensures { FieldGives (λ x. (x.0, x.1.now)) result (entries_field limits.now.devices limits.now.places device number 0 bytes.now) }
 {
     let mut entries = Listed::new(alloc);
     let mut least = 0;
@@ -85,7 +85,7 @@ fn entries_of<'a>(
     Ok((entries, rest))
 }
 
-// An entry of a place from `least` on, and the bytes behind it.
+// An entry of a place from `least` on, and the bytes after it.
 #[tactic(auto, unfolding(crate::specs::TableBytes::entry_field))]
 fn entry_of<'a>(
     limits: &Limits,
@@ -93,7 +93,7 @@ fn entry_of<'a>(
     least: u32,
     bytes: &'a [u8],
 ) -> Result<(StoredCount, &'a [u8]), FieldFault>
-    ensures gives { Gives (λ x. (x.0, x.1.now)) result (entry_field limits.now.devices limits.now.places device least bytes.now) }
+    ensures gives { FieldGives (λ x. (x.0, x.1.now)) result (entry_field limits.now.devices limits.now.places device least bytes.now) }
     ensures below { IfOk result (λ x. x.0.place < limits.now.places) }
 {
     let (place, behind) = u32_field(bytes)?;
@@ -105,13 +105,13 @@ fn entry_of<'a>(
     Ok((StoredCount { place, count }, rest))
 }
 
-// So many counters, and the bytes behind them.
+// So many counters, and the bytes after them.
 fn counters_of<'a>(
     alloc: Global,
     number: u32,
     bytes: &'a [u8],
 ) -> Result<(Listed<u64>, &'a [u8]), FieldFault>
-    ensures { Gives (λ x. (x.0, x.1.now)) result (counters_field number bytes.now) }
+    ensures { FieldGives (λ x. (x.0, x.1.now)) result (counters_field number bytes.now) }
 {
     let mut counters = Listed::new(alloc);
     let mut rest = bytes;

@@ -12,7 +12,7 @@ use std::sync::ledger::{Blank, Ledger};
 use zc_num::NoMemory;
 use zc_wire::put_u32;
 
-/// Puts the bytes of the table of a device of so many places behind those of `out`.
+/// Puts the bytes of the table of a device of so many places after those of `out`.
 ///
 /// A region without an entry costs no look-up.
 ///

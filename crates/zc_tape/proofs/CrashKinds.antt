@@ -3,7 +3,7 @@ use Rattle.std.proofs.Common.{◌≡◌, ℕ, ◌⊎◌, Bool, true, false, List
 use Rattle.zc_tape.specs.Tape.{Image, Call, Write, Sync, Made, Tape, is_at, with_bytes}
 use Rattle.zc_tape.specs.Crash.{Held, held_first, held_after, held, reads, HasWrite, Crash, May, MayFairly}
 use Rattle.zc_tape.proofs.Places.{with_bytes_there, with_bytes_elsewhere, writes_at_neither}
-use Rattle.zc_tape.proofs.Held.{held_by, settled}
+use Rattle.zc_tape.proofs.HeldLaws.{held_by, settled}
 
 -- a crash leaves what isn't written as it was, more unsynced writes allow more, and an Ok sync allows nothing new
 pub record IsKind (crash : Crash) : Type 0 where

@@ -5,7 +5,7 @@ use Rattle.zc_tape.specs.Tape.{Made, Image, Call, Write, Sync, Tape, push}
 use Rattle.zc_tape.specs.Crash.{held_after, reads, with_call, with_under_way, held, synced_at, unsynced_at, Crash, EachCrash}
 use Rattle.zc_tape.proofs.CrashKinds.{IsKind}
 use Rattle.zc_tape.proofs.Extends.{Extends, extends_length, synced_at_frozen, unsynced_at_frozen, unsynced_at_on}
-use Rattle.zc_tape.proofs.Held.{held_by}
+use Rattle.zc_tape.proofs.HeldLaws.{held_by}
 use Rattle.zc_tape.proofs.Moments.{nothing_under_way, length_after_push, synced_at_end, unsynced_at_end, synced_at_before, unsynced_at_before, synced_at_under_way, unsynced_at_under_way, synced_at_after, unsynced_at_after}
 
 -- the cases of a moment of a tape with one more call

@@ -17,7 +17,8 @@ use Rattle.zc_tape.specs.Crash.{held, held_after, with_call, with_under_way, wri
 use Rattle.zc_tape.specs.LastSync.{writes_of, is_synced, IsLastSync}
 use Rattle.zc_tape.specs.Memory.{half, keep_of, kept, left_by}
 use Rattle.zc_tape.proofs.Places.{with_bytes_elsewhere, neither}
-use Rattle.zc_tape.proofs.Held.{held_push}
+use Rattle.zc_tape.proofs.HeldLaws.{held_push}
+use Rattle.zc_tape.proofs.Moments.{unsynced_at_end, unsynced_at_past}
 
 -- the choice for one more write
 pub kept_push : (before : Image) (writes : List Call) (choice : List Keep) (call : Call)
@@ -187,17 +188,43 @@ left_by_found t moment last choice found =
 pub left_allowed : (t : Tape) (moment : ℕ) (choice : List Keep) (image : Image) → image ≡ left_by t moment choice → Left t moment image
 left_allowed t moment choice image e = λ d p apart. ap (λ f. f d p) e ∙ left_by_allowed t moment choice d p apart
 
--- what is left, from the entries up to the last Ok sync and those since
-pub left_by_entries : (t : Tape) (entries synced unsynced : List Entry) (moment last end : ℕ) (choice : List Keep) → t.calls ≡ map made_of entries
-    → IsLastSync (map made_of entries) moment last → end ≡ min (moment + 1) (length entries)
-    → synced ≡ take last entries → unsynced ≡ drop last (take end entries)
-    → kept (held t.start (map made_of synced)).now (writes_of (map made_of unsynced)) choice ≡ left_by t moment choice
-left_by_entries t entries synced unsynced moment last end choice calls found at front rest =
-    let before : map made_of synced ≡ take last t.calls = ap (map made_of) front ∙ sym (take-map made_of last entries) ∙ ap (take last) (sym calls) in
+-- the entries since the last Ok sync, with the call that is under way
+pub entries_since : (entries part : List Entry) (moment last end : ℕ) → end ≡ min (moment + 1) (length entries) → part ≡ drop last (take end entries)
+    → map made_of part ≡ drop last (take (moment + 1) (map made_of entries))
+entries_since entries part moment last end at rest =
     let cut : take end entries ≡ take (moment + 1) entries = rw at (take_min (moment + 1) entries) in
-    let since : map made_of unsynced ≡ drop last (take (moment + 1) t.calls) =
     ap (map made_of) (rest ∙ ap (drop last) cut) ∙ sym (drop-map made_of last (take (moment + 1) entries))
-    ∙ ap (drop last) (sym (take-map made_of (moment + 1) entries) ∙ ap (take (moment + 1)) (sym calls)) in
+    ∙ ap (drop last) (sym (take-map made_of (moment + 1) entries))
+
+-- what is left, from the entries up to the last Ok sync and those since
+pub left_by_entries : (t : Tape) (entries synced unsynced : List Entry) (moment last : ℕ) (choice : List Keep) → t.calls ≡ map made_of entries
+    → IsLastSync (map made_of entries) moment last
+    → synced ≡ take last entries → map made_of unsynced ≡ drop last (take (moment + 1) (map made_of entries))
+    → kept (held t.start (map made_of synced)).now (writes_of (map made_of unsynced)) choice ≡ left_by t moment choice
+left_by_entries t entries synced unsynced moment last choice calls found front rest =
+    let before : map made_of synced ≡ take last t.calls = ap (map made_of) front ∙ sym (take-map made_of last entries) ∙ ap (take last) (sym calls) in
+    let since : map made_of unsynced ≡ drop last (take (moment + 1) t.calls) = rest ∙ ap (λ xs. drop last (take (moment + 1) xs)) (sym calls) in
     ap (λ xs. kept (held t.start xs).now (writes_of (map made_of unsynced)) choice) before
     ∙ ap (λ xs. kept (held t.start (take last t.calls)).now (writes_of xs) choice) since
     ∙ sym (left_by_found t moment last choice (rw calls found))
+
+-- a moment past the last call is as the last one
+unsynced_within : (t : Tape) (moment : ℕ)
+    → ((m : Made) × (moment < length t.calls) × (slice_get t.calls moment ≡ Some m) × (get_or t.calls moment m ≡ m)) ⊎ ((length t.calls ≤ moment) × (slice_get t.calls moment ≡ None))
+    → unsynced_at t (min moment (length t.calls)) ≡ unsynced_at t moment
+unsynced_within t moment (inl (m, inside, some, here)) = let same : min moment (length t.calls) ≡ moment = omega arith in ap (unsynced_at t) same
+unsynced_within t moment (inr (past, none)) =
+    let same : min moment (length t.calls) ≡ length t.calls = omega arith in
+    ap (unsynced_at t) same ∙ unsynced_at_end t ∙ sym (unsynced_at_past t moment past)
+
+-- how many writes a crash in a moment decides, from the entries since the last Ok sync
+pub unsynced_counted : (t : Tape) (entries part : List Entry) (moment count last : ℕ) → t.calls ≡ map made_of entries
+    → count ≡ min moment (length entries) → IsLastSync (map made_of entries) count last
+    → map made_of part ≡ drop last (take (count + 1) (map made_of entries))
+    → length (writes_of (map made_of part)) ≡ length (unsynced_at t moment)
+unsynced_counted t entries part moment count last calls inner found rest =
+    let since : map made_of part ≡ drop last (take (count + 1) t.calls) = rest ∙ ap (λ xs. drop last (take (count + 1) xs)) (sym calls) in
+    let same : count ≡ min moment (length t.calls) = inner ∙ ap (min moment) (sym (length-map entries made_of) ∙ ap length (sym calls)) in
+    ap (λ xs. length (writes_of xs)) since
+    ∙ ap length (sym (unsynced_found t count last (rw calls found) (slice_get_cases t.calls count).1)
+    ∙ ap (unsynced_at t) same ∙ unsynced_within t moment (slice_get_cases t.calls moment).1)

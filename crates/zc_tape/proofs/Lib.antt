@@ -1,5 +1,5 @@
 pub mod Places
-pub mod Held
+pub mod HeldLaws
 pub mod Moments
 pub mod CrashKinds
 pub mod Extends

@@ -1,11 +1,11 @@
 -- The moments of a tape with one more call: those before it stay as they were, one has it under way, one comes after it.
 use Rattle.std.proofs.Common.{◌≡◌, ℕ, ◌+◌, ◌<◌, ◌≤◌, Bool, Option, Some, None, List, [], ◌∷◌, ◌++◌, length, take, slice_get, zero, suc, refl, ap, ap₂, sym, ◌∙◌, arith, le_refl, le_of_lt}
 use Rattle.std.proofs.Math.Seq.{take-length, take-append_seam}
-use Rattle.std.proofs.lemmas.List.{take-append-le, length_push}
+use Rattle.std.proofs.lemmas.List.{take-append-le, take_all, length_push}
 use Rattle.std.proofs.lemmas.Option.{slice_get_past}
 use Rattle.zc_tape.specs.Tape.{Image, Call, Made, Tape, push}
 use Rattle.zc_tape.specs.Crash.{Held, held_after, held, reads, with_call, with_under_way, synced_at, unsynced_at, Left, AtRest, writes_at}
-use Rattle.zc_tape.proofs.Held.{held_by, held_by_push, synced_at_rest}
+use Rattle.zc_tape.proofs.HeldLaws.{held_by, held_by_push, synced_at_rest}
 
 -- one more item doesn't move the ones before
 pub slice_get_before : {X : Type 0} (xs : List X) (x : X) (i : ℕ) → i < length xs → slice_get (xs ++ x ∷ []) i ≡ slice_get xs i
@@ -34,6 +34,10 @@ unsynced_at_end t = unsynced_by t.start (take (length t.calls) t.calls) t.calls 
 
 pub nothing_under_way : (t : Tape) (i : ℕ) → length t.calls ≤ i → unsynced_at t i ≡ (held t.start (take i t.calls)).unsynced
 nothing_under_way t i h = ap (λ under_way. with_under_way (held t.start (take i t.calls)).unsynced under_way) (slice_get_past t.calls i h)
+
+-- a moment past the last call is as the last one
+pub unsynced_at_past : (t : Tape) (i : ℕ) → length t.calls ≤ i → unsynced_at t i ≡ (held_by t).unsynced
+unsynced_at_past t i h = nothing_under_way t i h ∙ ap (λ calls. (held t.start calls).unsynced) (take_all i t.calls h)
 
 -- a moment before the last call doesn't see it
 pub synced_at_before : (t : Tape) (call : Call) (ok : Bool) (i : ℕ) → i ≤ length t.calls → synced_at (push t call ok) i ≡ synced_at t i

@@ -1,7 +1,10 @@
 -- Plans in parts: a list of calls that is begun, played to its end, or played up to a call that failed.
-use Rattle.std.proofs.Common.{◌≡◌, ◌+◌, ◌≤◌, ◌⊎◌, Bool, true, false, List, [], ◌∷◌, ◌++◌, length, IsTrue, refl, ap, sym, ◌∙◌, subst, inl, inr, ⊎_elim, arith, append_assoc, append-nil, true≢false}
+use Rattle.std.proofs.Common.{◌≡◌, ◌+◌, ◌<◌, ◌≤◌, ◌⊎◌, ℕ, Bool, true, false, List, [], ◌∷◌, ◌++◌, length, take, drop, get_or, IsTrue, refl, ap, sym, ◌∙◌, subst, inl, inr, ⊎_elim, arith, append_assoc, append-nil, true≢false}
+use Rattle.std.proofs.Math.Seq.{take-length}
+use Rattle.std.proofs.lemmas.Grind.{take_at_read}
+use Rattle.std.proofs.lemmas.List.{take-append-drop}
 use Rattle.zc_tape.specs.Tape.{Call, Tape, push, Appends}
-use Rattle.zc_tape.specs.Plays.{Plays, Begun, Played}
+use Rattle.zc_tape.specs.Plays.{Plays, Begun, IsMidway}
 use Rattle.zc_tape.specs.After.{all_ok}
 use Rattle.zc_tape.proofs.Moments.{length_after_push}
 use Rattle.zc_tape.proofs.Extends.{Extends, extends_refl, extends_push, extends_trans}
@@ -145,18 +148,39 @@ begun_no_longer t u (call ∷ plan) (inr (inr on)) h =
     in let e : length (push t call true).calls ≡ length t.calls + 1 = length_after_push t call true
     in absurd (omega arith)
 
--- the same where the tape is told
-pub played_nothing : (t : Tape) → Played t t [] true
-played_nothing t told = (refl, refl)
+-- a plan before its first call
+pub midway_first : (base : Tape) (plan : List Call) → IsMidway base plan 0 base
+midway_first base plan = (omega arith, (refl, refl))
 
-pub played_one : (t u : Tape) (call : Call) (ok : Bool) → Appends t u call ok → Played t u (call ∷ []) ok
-played_one t u call ok a told = plays_one t u call ok (a told)
+-- and after its last
+pub midway_last : (base t : Tape) (plan : List Call) → IsMidway base plan (length plan) t → Plays base plan t true
+midway_last base t plan midway = subst (λ calls. Plays base calls t true) (take-length plan) midway.1
 
-pub played_then : (t v u : Tape) (front back : List Call) (ok : Bool) → v.told ≡ t.told → Played t v front true → Played v u back ok → Played t u (front ++ back) ok
-played_then t v u front back ok same p q told = plays_then t v u front back ok (p told) (q (subst (λ b. IsTrue b) (sym same) told))
+-- it is begun
+pub begun_midway : (base t : Tape) (plan : List Call) (made : ℕ) → IsMidway base plan made t → Begun base plan t
+begun_midway base t plan made midway =
+    subst (λ calls. Begun base calls t) (take-append-drop made plan)
+    (begun_front base t (take made plan) (drop made plan) (begun_played base t (take made plan) true midway.1))
 
-pub played_push : (t v u : Tape) (plan : List Call) (call : Call) (ok : Bool) → v.told ≡ t.told → Played t v plan true → Appends v u call ok → Played t u (plan ++ call ∷ []) ok
-played_push t v u plan call ok same p a = played_then t v u plan (call ∷ []) ok same p (played_one v u call ok a)
+pub told_midway : (base t : Tape) (plan : List Call) (made : ℕ) → IsMidway base plan made t → t.told ≡ base.told
+told_midway base t plan made midway = told_begun base t plan (begun_midway base t plan made midway)
 
-pub played_stopped : (t u : Tape) (front back : List Call) → Played t u front false → Played t u (front ++ back) false
-played_stopped t u front back p told = plays_stopped t u front back (p told)
+-- its next call
+module _ (base t u : Tape) (plan : List Call) (made : ℕ) (call : Call) (told : IsTrue base.told)
+    (inside : made < length plan) (is : call ≡ get_or plan made call) (midway : IsMidway base plan made t) where
+  one_more : (ok : Bool) → Appends t u call ok → Plays base (take (made + 1) plan) u ok
+  one_more ok one =
+      let more : take (made + 1) plan ≡ take made plan ++ call ∷ [] = (take_at_read plan made call inside).1 ∙ ap (λ c. take made plan ++ c ∷ []) (sym is) in
+      subst (λ calls. Plays base calls u ok) (sym more)
+      (plays_push base t u (take made plan) call ok midway.1 (one (subst (λ b. IsTrue b) (sym (told_midway base t plan made midway)) told)))
+
+  pub midway_next : Appends t u call true → IsMidway base plan (made + 1) u
+  midway_next one = (omega arith, one_more true one)
+
+  pub midway_stopped : Appends t u call false → Plays base plan u false
+  midway_stopped one =
+      subst (λ calls. Plays base calls u false) (take-append-drop (made + 1) plan)
+      (plays_stopped base u (take (made + 1) plan) (drop (made + 1) plan) (one_more false one))
+
+  pub midway_failed : Appends t u call false → Begun base plan u
+  midway_failed one = begun_played base u plan false (midway_stopped one)

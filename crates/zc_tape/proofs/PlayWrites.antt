@@ -4,7 +4,7 @@ use Rattle.zc_tape.specs.Tape.{Image, Call, Write, Sync, Tape, push}
 use Rattle.zc_tape.specs.Crash.{reads, synced_at, unsynced_at, Crash, May, EachCrash, AtRest}
 use Rattle.zc_tape.specs.Plays.{Plays, Begun}
 use Rattle.zc_tape.specs.After.{after, AreWrites}
-use Rattle.zc_tape.proofs.Held.{held_by, synced_at_rest, unsynced_write, synced_write}
+use Rattle.zc_tape.proofs.HeldLaws.{held_by, synced_at_rest, unsynced_write, synced_write}
 use Rattle.zc_tape.proofs.Moments.{length_after_push, synced_at_end, unsynced_at_end}
 use Rattle.zc_tape.proofs.CrashKinds.{IsKind}
 use Rattle.zc_tape.proofs.EachCrash.{each_crash_write, each_crash_sync, each_crash_join}

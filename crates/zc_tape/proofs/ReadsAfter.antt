@@ -5,7 +5,7 @@ use Rattle.zc_tape.specs.Crash.{reads, is_spoilt, writes_at, HasWrite, AtRest}
 use Rattle.zc_tape.specs.Plays.{Plays}
 use Rattle.zc_tape.specs.After.{after, AreWrites}
 use Rattle.zc_tape.proofs.Places.{with_bytes_there, is_at_here, left_true, with_bytes_elsewhere, neither}
-use Rattle.zc_tape.proofs.Held.{reads_write_ok, reads_sync, spoilt_write_ok, spoilt_sync, unsynced_sync_ok}
+use Rattle.zc_tape.proofs.HeldLaws.{reads_write_ok, reads_sync, spoilt_write_ok, spoilt_sync, unsynced_sync_ok}
 use Rattle.zc_tape.proofs.Plans.{plays_whole, one_of_plays}
 
 -- the writes of two lists, the first first

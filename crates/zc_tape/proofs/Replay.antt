@@ -8,7 +8,7 @@ use Rattle.zc_tape.specs.declared.entry.Entry.{Entry}
 use Rattle.zc_tape.specs.Blocks.{made_of, is_there, image_after}
 use Rattle.zc_tape.specs.Tape.{Image, Call, Write, Sync}
 use Rattle.zc_tape.specs.Crash.{Held, held, held_after}
-use Rattle.zc_tape.proofs.Held.{held_push}
+use Rattle.zc_tape.proofs.HeldLaws.{held_push}
 
 -- the bytes after one more call
 pub now_after : (h : Held) (call : Call) (ok : Bool) → (held_after h call ok).now ≡ image_after h.now (record { call = call; ok = ok })

@@ -4,7 +4,7 @@ use Rattle.zc_tape.specs.Tape.{Image, Call, Write, Sync, Tape, is_at, push}
 use Rattle.zc_tape.specs.Crash.{Held, held_after, reads, with_call, writes_at, Crash, EachCrash, AtRest}
 use Rattle.zc_tape.specs.Plays.{Begun}
 use Rattle.zc_tape.proofs.Places.{neither, both_false, writes_at_both, with_bytes_elsewhere}
-use Rattle.zc_tape.proofs.Held.{held_by, held_by_push, synced_at_rest}
+use Rattle.zc_tape.proofs.HeldLaws.{held_by, held_by_push, synced_at_rest}
 use Rattle.zc_tape.proofs.CrashKinds.{IsKind}
 use Rattle.zc_tape.proofs.EachCrash.{each_crash_push}
 use Rattle.zc_tape.proofs.PlayWrites.{each_crash_at_rest}

@@ -1,5 +1,5 @@
 -- How a list of device calls is made, and what stands on the tape then.
-use Rattle.std.specs.Prelude.{◌≡◌, ◌⊎◌, Bool, true, false, List, [], ◌∷◌, IsTrue}
+use Rattle.std.specs.Prelude.{◌≡◌, ◌⊎◌, ◌≤◌, ℕ, Bool, true, false, List, [], ◌∷◌, length, take, IsTrue}
 use Rattle.zc_tape.specs.Tape.{Call, Tape, push}
 
 -- the calls were made in order up to the first that failed; ok says that none did
@@ -12,6 +12,10 @@ abbrev pub Begun : Tape → List Call → Tape → Type 0
 Begun t [] u = u ≡ t
 Begun t (call ∷ plan) u = (u ≡ t) ⊎ ((u ≡ push t call false) ⊎ Begun (push t call true) plan u)
 
+-- so many of the calls, the first ones, were made in order, and each was Ok
+abbrev pub IsMidway : Tape → List Call → ℕ → Tape → Type 0
+IsMidway base plan made t = (made ≤ length plan) × Plays base (take made plan) t true
+
 -- the calls were made in order up to the first that failed, where the tape is told
-abbrev pub Played : Tape → Tape → List Call → Bool → Type 0
-Played t u plan ok = IsTrue t.told → Plays t plan u ok
+abbrev pub Played : Tape → List Call → Tape → Bool → Type 0
+Played t plan u ok = IsTrue t.told → Plays t plan u ok

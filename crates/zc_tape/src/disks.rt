@@ -70,6 +70,7 @@ pub trait DiskSet {
     /// Want of memory; the room is then what it was, or more.
     fn ready(&mut self, calls: u64) -> Result<(), NoMemory>
         ensures spare { OnOk result (calls ≤ spare self.new) }
+        ensures never_falls { spare self.old ≤ spare self.new }
         ensures tape { tape self.new ≡ tape self.old }
         ensures shape { shape self.new ≡ shape self.old }
         ensures faults { faults self.new ≡ faults self.old };

@@ -40,7 +40,7 @@ pub fn perform<D: DiskSet>(disks: &mut D, calls: &[DiskCall]) -> Result<(), Fail
     requires there { AreThere (D.shape disks.old) (map call_of calls.now) }
     requires room { length calls.now ≤ D.spare disks.old }
     ensures told { (D.tape disks.new).told ≡ (D.tape disks.old).told }
-    ensures played { Played (D.tape disks.old) (D.tape disks.new) (map call_of calls.now) (is_ok result) }
+    ensures played { Played (D.tape disks.old) (map call_of calls.now) (D.tape disks.new) (is_ok result) }
     ensures shape { D.shape disks.new ≡ D.shape disks.old }
     ensures spare { OnOk result (D.spare disks.old ≤ D.spare disks.new + length calls.now) }
     ensures cause { HasCause (D.faults disks.old) (D.faults disks.new) result }

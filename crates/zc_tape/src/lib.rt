@@ -17,8 +17,6 @@ mod entry;
 mod executor;
 mod keep;
 mod memory;
-#[cfg(test)]
-mod tests;
 
 pub use call::{DiskCall, Plan};
 pub use disks::{DiskSet, Failed};

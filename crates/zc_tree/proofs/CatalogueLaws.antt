@@ -11,7 +11,7 @@ use Rattle.zc_wire.specs.declared.fault.CatalogFault.{CatalogFault}
 use Rattle.zc_wire.specs.declared.fault.CatalogFault.TheVariants as catalog
 use Rattle.zc_wire.specs.declared.fields.FieldFault.{FieldFault}
 use Rattle.zc_wire.specs.declared.fields.FieldFault.TheVariants as field
-use Rattle.zc_wire.specs.Fields.{Read, Fails, placed_in, u32_field}
+use Rattle.zc_wire.specs.Fields.{Read, FieldFails, placed_in, u32_field}
 use Rattle.zc_wire.proofs.FieldLaws.{bind_ok, rule_ok, ok_is, bind_again, rule_on, Takes, takes_then, takes_none, u32_takes, u32_again}
 use Rattle.zc_table.specs.declared.stored.StoredTable.{StoredTable}
 use Rattle.zc_table.specs.TableBytes.{table_bytes, table_field, IsTable}
@@ -285,6 +285,6 @@ whole_is_read devices places group next_dataset bytes result limits group_width 
     whole_reads total (Err (catalog.BadCatalog at)) read x answer is = let clash = sym is ∙ answer.1 in absurd cc
 
 -- a fault of a read, placed among all bytes
-pub fault_whole : {X : Type 0} (total : ℕ) (fault : FieldFault) (placed : CatalogFault) (read : Read X) → placed ≡ placed_in total fault → Fails fault read → AnswersWhole {X = X} total (Err placed) read
+pub fault_whole : {X : Type 0} (total : ℕ) (fault : FieldFault) (placed : CatalogFault) (read : Read X) → placed ≡ placed_in total fault → FieldFails fault read → AnswersWhole {X = X} total (Err placed) read
 fault_whole {X} total field.NoMemory placed read is fails = subst (λ (e : CatalogFault). AnswersWhole {X = X} total (Err e) read) (sym is) tt
 fault_whole {X} total (field.Bad left) placed read is fails = subst (λ (e : CatalogFault). AnswersWhole {X = X} total (Err e) read) (sym is) (left, fails, refl)

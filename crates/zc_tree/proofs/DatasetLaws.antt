@@ -12,7 +12,7 @@ use Rattle.zc_tree.specs.declared.tree.LogState.TheVariants.{Normal, Claimed}
 use Rattle.zc_tree.specs.declared.tree.File.{File}
 use Rattle.zc_tree.specs.declared.tree.Dataset.{Dataset}
 use Rattle.zc_tree.specs.Reach.{pointers_of_files}
-use Rattle.zc_tree.specs.Spelling.{name_bytes, log_bytes, files_bytes, dataset_bytes, IsLogState, IsDataset, IsBehind}
+use Rattle.zc_tree.specs.Spelling.{name_bytes, log_bytes, files_bytes, dataset_bytes, IsLogState, IsDataset, IsAfter}
 use Rattle.zc_command.specs.Names.{IsName}
 use Rattle.zc_tree.specs.Reading.{name_length_field, name_field, files_field, claimed_field, log_field, head_field, dataset_field}
 use Rattle.zc_tree.proofs.EntryLaws.{name_length_takes, name_length_again, name_takes, name_again}
@@ -99,7 +99,7 @@ from_none a = omega arith
 pub record DatasetFound (devices places group next_dataset : ℕ) (others : List Dataset) (bytes : List ℕ) (dataset : Dataset) (rest : List ℕ) : Type 0 where
   pub takes : Takes bytes (dataset_bytes dataset) rest
   pub fits : IsDataset devices places group next_dataset dataset
-  pub behind : IsBehind others dataset
+  pub behind : IsAfter others dataset
 
 -- ---- the head
 
@@ -292,15 +292,15 @@ dataset_takes devices places group next_dataset others bytes x fits e =
       names_differ = files.new;
       few_pointers = none_before (length (pointers_of_files p.files.0)) (pointers_of devices places) files.few;
     } in
-    let behind : IsBehind others made = record { above = head.above; other_slot = head.other_slot; other_name = head.other_name } in
+    let behind : IsAfter others made = record { above = head.above; other_slot = head.other_slot; other_name = head.other_name } in
     record {
       takes = subst (λ (rest : List ℕ). Takes bytes (dataset_bytes x.0) rest) p.rest (subst (λ (d : Dataset). Takes bytes (dataset_bytes d) p.files.1) p.made p1);
       fits = subst (IsDataset devices places group next_dataset) p.made is_dataset;
-      behind = subst (IsBehind others) p.made behind;
+      behind = subst (IsAfter others) p.made behind;
     }
 
 pub dataset_again : (devices places group next_dataset : ℕ) (others : List Dataset) (dataset : Dataset) (rest : List ℕ) → AreSmall devices places → group < 2 ^ 64 → next_dataset < 2 ^ 64
-    → IsDataset devices places group next_dataset dataset → IsBehind others dataset → dataset_field devices places group next_dataset others (dataset_bytes dataset ++ rest) ≡ Ok (dataset, rest)
+    → IsDataset devices places group next_dataset dataset → IsAfter others dataset → dataset_field devices places group next_dataset others (dataset_bytes dataset ++ rest) ≡ Ok (dataset, rest)
 unfolding dataset_field dataset_bytes name_bytes
 dataset_again devices places group next_dataset others dataset rest small group_width width fits behind =
     let id = dataset.id in
@@ -325,11 +325,11 @@ dataset_again devices places group next_dataset others dataset rest small group_
 
 -- the same, at bytes that begin so, under the limits
 pub dataset_read : (devices places group next_dataset : ℕ) (others : List Dataset) (bytes : List ℕ) (dataset : Dataset) (rest : List ℕ) → AreLimits devices places → group < 2 ^ 64 → next_dataset < 2 ^ 64
-    → IsDataset devices places group next_dataset dataset → IsBehind others dataset → bytes ≡ dataset_bytes dataset ++ rest → dataset_field devices places group next_dataset others bytes ≡ Ok (dataset, rest)
+    → IsDataset devices places group next_dataset dataset → IsAfter others dataset → bytes ≡ dataset_bytes dataset ++ rest → dataset_field devices places group next_dataset others bytes ≡ Ok (dataset, rest)
 dataset_read devices places group next_dataset others bytes dataset rest limits group_width width fits behind parts =
     ap (dataset_field devices places group next_dataset others) parts
     ∙ dataset_again devices places group next_dataset others dataset rest (small_limits devices places limits) group_width width fits behind
 
--- a dataset alone is behind no other
-pub behind_none : (dataset : Dataset) → IsBehind [] dataset
-behind_none dataset = record { above = refl; other_slot = refl; other_name = refl }
+-- a dataset alone is after no other
+pub after_none : (dataset : Dataset) → IsAfter [] dataset
+after_none dataset = record { above = refl; other_slot = refl; other_name = refl }

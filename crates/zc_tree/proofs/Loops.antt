@@ -1,11 +1,11 @@
--- Reading entries and files one behind the other, as loops do.
+-- Reading entries and files one after the other, as loops do.
 use Rattle.std.proofs.Common.{◌≡◌, ℕ, zero, suc, ◌+◌, ◌-◌, ◌*◌, ◌≤◌, ◌<◌, true, ◌&&◌, ltb, leb, List, [], ◌∷◌, ◌++◌, length, map, reverse, Ok, Err, refl, sym, ap, ◌∙◌, append_assoc, arith}
 use Rattle.std.specs.List.{AllByRecursion}
 use Rattle.std.proofs.lemmas.List.{append-nil, map-append, reverse-append}
 use Rattle.std.proofs.lemmas.Bool.{leb-true, and_parts}
 use Rattle.zc_wire.specs.declared.fields.FieldFault.{FieldFault}
 use Rattle.zc_wire.specs.declared.fields.FieldFault.TheVariants as field
-use Rattle.zc_wire.specs.Fields.{Read, ◌>>=◌, Fails, u32_field, rule}
+use Rattle.zc_wire.specs.Fields.{Read, ◌>>=◌, FieldFails, u32_field, rule}
 use Rattle.zc_wire.proofs.FieldLaws.{bind_ok, rule_ok, ok_is}
 use Rattle.zc_blkptr.specs.declared.ptr.Ptr.{Ptr}
 use Rattle.zc_blkptr.specs.PtrField.{ptr_field}
@@ -40,8 +40,8 @@ entries_go_on devices places size count i least front bytes after entry total lt
 
 -- an entry is refused
 pub entries_end : (fault : FieldFault) (devices places size count i least : ℕ) (front : List (ℕ × Ptr)) (bytes : List ℕ) (total : Read (List (ℕ × Ptr))) → i < count
-    → Fails fault (entry_field devices places size least bytes)
-    → with_front front (entries_field devices places size (count - i) least bytes) ≡ total → Fails fault total
+    → FieldFails fault (entry_field devices places size least bytes)
+    → with_front front (entries_field devices places size (count - i) least bytes) ≡ total → FieldFails fault total
 unfolding entries_field
 entries_end field.NoMemory devices places size count i least front bytes total lt h so_far = tt
 entries_end (field.Bad left) devices places size count i least front bytes total lt h so_far =
@@ -69,7 +69,7 @@ entry_least devices places size least bytes x e =
     let least_is : leb least a.0.0 ≡ true = (and_parts (leb least a.0.0) (ltb (a.0.0 * 4096) size) r.0).0 in
     omega (arith, leb-true least a.0.0 least_is)
 
--- what is below one number is below a greater one, and so is what comes behind it
+-- what is below one number is below a greater one, and so is what comes after it
 pub all_below_more : (es : List (ℕ × Ptr)) (least more key : ℕ) (ptr : Ptr) → least ≤ more → key < more → AllByRecursion (λ (e : ℕ × Ptr). e.0 < least) es → AllByRecursion (λ (e : ℕ × Ptr). e.0 < more) (es ++ (key, ptr) ∷ [])
 all_below_more [] least more key ptr le lt lower = (lt, tt)
 all_below_more (e ∷ es) least more key ptr le lt lower = (omega (arith, lower.0), all_below_more es least more key ptr le lt lower.1)
@@ -101,8 +101,8 @@ files_go_on devices places next_file count i least used front bytes after file t
 
 -- a file is refused
 pub files_end : (fault : FieldFault) (devices places next_file count i least used : ℕ) (front : List File) (bytes : List ℕ) (total : Read (List File)) → i < count
-    → Fails fault (file_field devices places next_file least used (names_so_far front) bytes)
-    → with_front front (files_field devices places next_file (count - i) least used (names_so_far front) bytes) ≡ total → Fails fault total
+    → FieldFails fault (file_field devices places next_file least used (names_so_far front) bytes)
+    → with_front front (files_field devices places next_file (count - i) least used (names_so_far front) bytes) ≡ total → FieldFails fault total
 unfolding files_field
 files_end field.NoMemory devices places next_file count i least used front bytes total lt h so_far = tt
 files_end (field.Bad left) devices places next_file count i least used front bytes total lt h so_far =

@@ -8,7 +8,7 @@ use Rattle.zc_table.specs.declared.stored.StoredTable.{StoredTable}
 use Rattle.zc_spacemap.specs.MapBytes.{map_bytes, kept_places}
 use Rattle.zc_spacemap.specs.declared.state.PlaceState.{PlaceState}
 use Rattle.zc_spacemap.specs.declared.stored.StoredMap.{StoredMap}
-use Rattle.zc_tree.specs.Spelling.{dataset_bytes, IsDataset, IsBehind, HasDatasetWidths}
+use Rattle.zc_tree.specs.Spelling.{dataset_bytes, IsDataset, IsAfter, HasDatasetWidths}
 use Rattle.zc_tree.specs.declared.catalogue.Parts.{Parts}
 use Rattle.zc_tree.specs.declared.tree.Dataset.{Dataset}
 use Rattle.zc_tree.specs.declared.tree.Tree.{Tree}
@@ -35,11 +35,11 @@ parts_of tree counts states = record { tree = tree; tables = map stored_of count
 
 -- ---- which values are spelled
 
--- the root of this group and next dataset number may have the datasets behind the others, each behind those before it
+-- the root of this group and next dataset number may have the datasets after the others, each after those before it
 abbrev pub AreDatasets : (devices places group next_dataset : ℕ) → (others datasets : List Dataset) → Type 0
 AreDatasets devices places group next_dataset others [] = Unit {0}
 AreDatasets devices places group next_dataset others (dataset ∷ datasets) =
-    IsDataset devices places group next_dataset dataset × IsBehind others dataset × AreDatasets devices places group next_dataset (others ++ dataset ∷ []) datasets
+    IsDataset devices places group next_dataset dataset × IsAfter others dataset × AreDatasets devices places group next_dataset (others ++ dataset ∷ []) datasets
 
 -- tables of the devices from this one on
 abbrev pub AreTables : (devices places device : ℕ) → List StoredTable → Type 0

@@ -11,7 +11,7 @@ use Rattle.zc_tree.specs.Reading.{dataset_field}
 use Rattle.zc_tree.specs.declared.catalogue.Parts.{Parts}
 use Rattle.zc_tree.specs.declared.tree.Dataset.{Dataset}
 
--- so many datasets behind others
+-- so many datasets after others
 unfoldable pub datasets_field : (devices places group next_dataset number : ℕ) → List Dataset → List ℕ → Read (List Dataset)
 datasets_field devices places group next_dataset zero others bytes = Ok ([], bytes)
 datasets_field devices places group next_dataset (suc number) others bytes = do
@@ -45,7 +45,7 @@ catalogue_field devices places group next_dataset bytes = do
   Ok (record { tree = record { group = group; next_dataset = next_dataset; datasets = datasets.0 }; tables = each.0.0; maps = each.0.1 }, each.1)
 
 -- What a reader of a whole catalogue answered is what the read answers of so many bytes, unless memory was wanting: the value, or
--- the place of the first byte of the first field that isn't there whole or breaks a rule. Bytes behind the end are such a field.
+-- the place of the first byte of the first field that isn't there whole or breaks a rule. Bytes after the end are such a field.
 abbrev pub AnswersWhole : {X : Type 0} → ℕ → Result X CatalogFault → Read X → Type 0
 AnswersWhole total (Ok x) read = read ≡ Ok (x, [])
 AnswersWhole total (Err NoMemory) read = Unit {0}

@@ -12,12 +12,12 @@ use Rattle.zc_tree.specs.declared.tree.Tree.{Tree}
 abbrev pub pointers_of_file : File → List Ptr
 pointers_of_file file = map (λ entry. entry.1) file.slots
 
--- the pointers of the files, one file behind the other
+-- the pointers of the files, one file after the other
 abbrev pub pointers_of_files : List File → List Ptr
 pointers_of_files [] = []
 pointers_of_files (file ∷ files) = pointers_of_file file ++ pointers_of_files files
 
--- the pointers of the datasets, one dataset behind the other
+-- the pointers of the datasets, one dataset after the other
 abbrev pub pointers_of_datasets : List Dataset → List Ptr
 pointers_of_datasets [] = []
 pointers_of_datasets (dataset ∷ datasets) = pointers_of_files dataset.files ++ pointers_of_datasets datasets

@@ -43,7 +43,7 @@ entries_field devices places size (suc count) least bytes = do
   others ← entries_field devices places size count (first.0.0 + 1) first.1
   Ok (first.0 ∷ others.0, others.1)
 
--- a file whose number is at least `least` and below the next one, behind files of these names that have `used` pointers
+-- a file whose number is at least `least` and below the next one, after files of these names that have `used` pointers
 unfoldable pub file_field : (devices places next_file least used : ℕ) → List (List ℕ) → List ℕ → Read File
 file_field devices places next_file least used names bytes = do
   id ← u64_field bytes
@@ -82,7 +82,7 @@ log_field devices places group bytes = do
   _ ← rule (nat_le state.0 1) bytes
   if state.0 == 0 then Ok (Normal, state.1) else claimed_field devices places group state.1
 
--- the number, the slot and the name of a dataset behind others: a greater number, another slot and another name
+-- the number, the slot and the name of a dataset after others: a greater number, another slot and another name
 unfoldable pub head_field : ℕ → List Dataset → List ℕ → Read (ℕ × ℕ × List ℕ)
 head_field next_dataset others bytes = do
   id ← u64_field bytes
@@ -94,7 +94,7 @@ head_field next_dataset others bytes = do
   _ ← rule (not (list_any (λ other. bytes_eq other.name name.0) others)) count.1
   Ok ((id.0, slot.0, name.0), name.1)
 
--- a dataset behind others
+-- a dataset after others
 unfoldable pub dataset_field : (devices places group next_dataset : ℕ) → List Dataset → List ℕ → Read Dataset
 dataset_field devices places group next_dataset others bytes = do
   head ← head_field next_dataset others bytes

@@ -29,7 +29,7 @@ log_bytes (Claimed epoch blocks) = u32_bytes 1 ++ (u64_bytes epoch ++ u32_bytes 
 unfoldable pub entry_bytes : ℕ × Ptr → List ℕ
 entry_bytes entry = u32_bytes entry.0 ++ ptr_bytes entry.1
 
--- the entries, one behind the other
+-- the entries, one after the other
 abbrev pub entries_bytes : List (ℕ × Ptr) → List ℕ
 entries_bytes [] = []
 entries_bytes (entry ∷ entries) = entry_bytes entry ++ entries_bytes entries
@@ -38,7 +38,7 @@ entries_bytes (entry ∷ entries) = entry_bytes entry ++ entries_bytes entries
 unfoldable pub file_bytes : File → List ℕ
 file_bytes file = u64_bytes file.id ++ (name_bytes file.name ++ (u64_bytes file.size ++ (u32_bytes (length file.slots) ++ entries_bytes file.slots)))
 
--- the files, one behind the other
+-- the files, one after the other
 abbrev pub files_bytes : List File → List ℕ
 files_bytes [] = []
 files_bytes (file ∷ files) = file_bytes file ++ files_bytes files
@@ -91,8 +91,8 @@ pub record IsDataset (devices places group next_dataset : ℕ) (dataset : Datase
   pub names_differ : AreNewTo [] (map (λ file. file.name) dataset.files)
   pub few_pointers : length (pointers_of_files dataset.files) ≤ pointers_of devices places
 
--- the dataset may stand behind the others in a catalogue: its number is above theirs, and its slot and its name are none of theirs
-pub record IsBehind (others : List Dataset) (dataset : Dataset) : Type 0 where
+-- the dataset may stand after the others in a catalogue: its number is above theirs, and its slot and its name are none of theirs
+pub record IsAfter (others : List Dataset) (dataset : Dataset) : Type 0 where
   pub above : IsTrue (list_all (λ other. nat_lt other.id dataset.id) others)
   pub other_slot : list_any (λ other. other.slot == dataset.slot) others ≡ false
   pub other_name : list_any (λ other. bytes_eq other.name dataset.name) others ≡ false

@@ -10,8 +10,6 @@ mod catalogue;
 mod names;
 mod reading;
 mod slots;
-#[cfg(test)]
-mod tests;
 mod tree;
 mod walking;
 mod writing;

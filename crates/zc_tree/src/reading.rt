@@ -3,9 +3,9 @@ ghost use Rattle.std.specs.Prelude.{◌≡◌, ◌==◌, ◌++◌, ◌<◌, ◌^
 ghost use Rattle.zc_tree.specs.NameSet.{Knows};
 ghost use Rattle.std.specs.List.{list_all, list_any};
 ghost use Rattle.std.specs.Str.{bytes_eq};
-ghost use Rattle.zc_wire.specs.Fields.{Gives, Answers, Reads, StandsInFront};
+ghost use Rattle.zc_wire.specs.Fields.{FieldGives, FieldAnswers, Reads, StandsInFront};
 ghost use Rattle.zc_tree.specs.declared.tree.Dataset.{Dataset};
-ghost use Rattle.zc_tree.specs.Spelling.{dataset_bytes, IsDataset, IsBehind};
+ghost use Rattle.zc_tree.specs.Spelling.{dataset_bytes, IsDataset, IsAfter};
 ghost use Rattle.zc_tree.specs.Reading.{name_length_field, name_field, entry_field, entries_field, file_field, files_field, claimed_field, log_field, head_field, dataset_field};
 
 use crate::names::NameSet;
@@ -32,12 +32,12 @@ pub fn read_dataset(
     ensures only { (dataset : Dataset) (rest : List ℕ) → IsDataset limits.now.devices limits.now.places group next_dataset dataset → bytes.now ≡ dataset_bytes dataset ++ rest
         → Reads result dataset (length (dataset_bytes dataset)) }
     // Which field is refused.
-    ensures exact { Answers (length bytes.now) result (dataset_field limits.now.devices limits.now.places group next_dataset [] bytes.now) }
+    ensures exact { FieldAnswers (length bytes.now) result (dataset_field limits.now.devices limits.now.places group next_dataset [] bytes.now) }
 {
     read_next_dataset(alloc, bytes, limits, group, next_dataset, &[])
 }
 
-/// The same for a dataset behind others of its catalogue: its number is greater than theirs, and its slot and its name are none of
+/// The same for a dataset after others of its catalogue: its number is greater than theirs, and its slot and its name are none of
 /// theirs.
 pub fn read_next_dataset(
     alloc: Global,
@@ -47,10 +47,10 @@ pub fn read_next_dataset(
     next_dataset: u64,
     others: &[Dataset],
 ) -> Result<(Dataset, usize), CatalogFault>
-    ensures found { IfOk result (λ x. IsDataset limits.now.devices limits.now.places group next_dataset x.0 × IsBehind others.now x.0 × StandsInFront (dataset_bytes x.0) x.1 bytes.now) }
-    ensures only { (dataset : Dataset) (rest : List ℕ) → IsDataset limits.now.devices limits.now.places group next_dataset dataset → IsBehind others.now dataset → bytes.now ≡ dataset_bytes dataset ++ rest
+    ensures found { IfOk result (λ x. IsDataset limits.now.devices limits.now.places group next_dataset x.0 × IsAfter others.now x.0 × StandsInFront (dataset_bytes x.0) x.1 bytes.now) }
+    ensures only { (dataset : Dataset) (rest : List ℕ) → IsDataset limits.now.devices limits.now.places group next_dataset dataset → IsAfter others.now dataset → bytes.now ≡ dataset_bytes dataset ++ rest
         → Reads result dataset (length (dataset_bytes dataset)) }
-    ensures exact { Answers (length bytes.now) result (dataset_field limits.now.devices limits.now.places group next_dataset others.now bytes.now) }
+    ensures exact { FieldAnswers (length bytes.now) result (dataset_field limits.now.devices limits.now.places group next_dataset others.now bytes.now) }
 {
     match dataset_field(alloc, bytes, limits, group, next_dataset, others) {
         Ok((dataset, rest)) => Ok((dataset, bytes.len().saturating_sub(rest.len()))),
@@ -58,7 +58,7 @@ pub fn read_next_dataset(
     }
 }
 
-/// A dataset behind others at the front of the bytes, and the bytes behind it. The root's group and next dataset number are those
+/// A dataset after others at the front of the bytes, and the bytes after it. The root's group and next dataset number are those
 /// of the catalogue.
 ///
 /// # Errors
@@ -72,7 +72,7 @@ pub fn dataset_field<'a>(
     next_dataset: u64,
     others: &[Dataset],
 ) -> Result<(Dataset, &'a [u8]), FieldFault>
-    ensures { Gives (λ x. (x.0, x.1.now)) result (dataset_field limits.now.devices limits.now.places group next_dataset others.now bytes.now) }
+    ensures { FieldGives (λ x. (x.0, x.1.now)) result (dataset_field limits.now.devices limits.now.places group next_dataset others.now bytes.now) }
 {
     let ((id, slot, name), at_next) = head_field(alloc, bytes, next_dataset, others)?;
     let (next_file, at_log) = u64_field(at_next)?;
@@ -94,7 +94,7 @@ pub fn dataset_field<'a>(
     ))
 }
 
-// The number, the slot and the name of a dataset behind others.
+// The number, the slot and the name of a dataset after others.
 #[tactic(auto, unfolding(crate::specs::Reading::head_field))]
 fn head_field<'a>(
     alloc: Global,
@@ -102,7 +102,7 @@ fn head_field<'a>(
     next_dataset: u64,
     others: &[Dataset],
 ) -> Result<((u64, u32, Name), &'a [u8]), FieldFault>
-    ensures { Gives (λ x. ((x.0.0, x.0.1, x.0.2), x.1.now)) result (head_field next_dataset others.now bytes.now) }
+    ensures { FieldGives (λ x. ((x.0.0, x.0.1, x.0.2), x.1.now)) result (head_field next_dataset others.now bytes.now) }
 {
     let (id, at_slot) = u64_field(bytes)?;
     rule(1 <= id && id < next_dataset && is_above(others, id), bytes)?;
@@ -138,7 +138,7 @@ fn has_name(others: &[Dataset], name: &Name) -> bool
 // The length of a name.
 #[tactic(auto, unfolding(crate::specs::Reading::name_length_field))]
 fn name_length_field(bytes: &[u8]) -> Result<(u32, &[u8]), FieldFault>
-    ensures { Gives (λ x. (x.0, x.1.now)) result (name_length_field bytes.now) }
+    ensures { FieldGives (λ x. (x.0, x.1.now)) result (name_length_field bytes.now) }
 {
     let (count, rest) = u32_field(bytes)?;
     rule(1 <= count && count <= 64, bytes)?;
@@ -148,7 +148,7 @@ fn name_length_field(bytes: &[u8]) -> Result<(u32, &[u8]), FieldFault>
 // The bytes of a name.
 #[tactic(auto, unfolding(crate::specs::Reading::name_field))]
 fn name_field(alloc: Global, bytes: &[u8], count: u32) -> Result<(Name, &[u8]), FieldFault>
-    ensures { Gives (λ x. (x.0, x.1.now)) result (name_field count bytes.now) }
+    ensures { FieldGives (λ x. (x.0, x.1.now)) result (name_field count bytes.now) }
 {
     let (name, rest) = bytes_field(bytes, count as usize)?;
     rule(are_name_bytes(name), bytes)?;
@@ -162,7 +162,7 @@ fn log_field<'a>(
     limits: &Limits,
     group: u64,
 ) -> Result<(LogState, &'a [u8]), FieldFault>
-    ensures { Gives (λ x. (x.0, x.1.now)) result (log_field limits.now.devices limits.now.places group bytes.now) }
+    ensures { FieldGives (λ x. (x.0, x.1.now)) result (log_field limits.now.devices limits.now.places group bytes.now) }
 {
     let (state, rest) = u32_field(bytes)?;
     rule(state <= 1, bytes)?;
@@ -180,7 +180,7 @@ fn claimed_field<'a>(
     limits: &Limits,
     group: u64,
 ) -> Result<(LogState, &'a [u8]), FieldFault>
-    ensures { Gives (λ x. (x.0, x.1.now)) result (claimed_field limits.now.devices limits.now.places group bytes.now) }
+    ensures { FieldGives (λ x. (x.0, x.1.now)) result (claimed_field limits.now.devices limits.now.places group bytes.now) }
 {
     let (epoch, at_blocks) = u64_field(bytes)?;
     rule(1 <= epoch && epoch < group, bytes)?;
@@ -197,7 +197,7 @@ fn files_field<'a>(
     next_file: u64,
     count: u32,
 ) -> Result<(Listed<File>, &'a [u8]), FieldFault>
-    ensures { Gives (λ x. (x.0, x.1.now)) result (files_field limits.now.devices limits.now.places next_file count 1 0 [] bytes.now) }
+    ensures { FieldGives (λ x. (x.0, x.1.now)) result (files_field limits.now.devices limits.now.places next_file count 1 0 [] bytes.now) }
 {
     let mut files = Listed::new(alloc);
     let mut names = NameSet::new(alloc);
@@ -215,7 +215,7 @@ fn files_field<'a>(
     Ok((files, rest))
 }
 
-// A file whose number is at least `least`, behind files of these names that have `used` pointers.
+// A file whose number is at least `least`, after files of these names that have `used` pointers.
 #[tactic(auto, unfolding(crate::specs::Reading::file_field))]
 fn file_field<'a>(
     alloc: Global,
@@ -227,7 +227,7 @@ fn file_field<'a>(
     names: &NameSet,
 ) -> Result<(File, &'a [u8]), FieldFault>
     requires { used < 2 ^ 32 }
-    ensures { (known : List (List ℕ)) → Knows names.now known → Gives (λ x. (x.0, x.1.now)) result (file_field limits.now.devices limits.now.places next_file least used known bytes.now) }
+    ensures { (known : List (List ℕ)) → Knows names.now known → FieldGives (λ x. (x.0, x.1.now)) result (file_field limits.now.devices limits.now.places next_file least used known bytes.now) }
 {
     let (id, at_length) = u64_field(bytes)?;
     rule(least <= id && id < next_file, bytes)?;
@@ -261,7 +261,7 @@ fn entries_field<'a>(
     size: u64,
     count: u32,
 ) -> Result<(Ordered<Ptr>, &'a [u8]), FieldFault>
-    ensures { Gives (λ x. (x.0, x.1.now)) result (entries_field limits.now.devices limits.now.places size count 0 bytes.now) }
+    ensures { FieldGives (λ x. (x.0, x.1.now)) result (entries_field limits.now.devices limits.now.places size count 0 bytes.now) }
 {
     let mut slots = Ordered::new(alloc);
     let mut least = 0;
@@ -283,7 +283,7 @@ fn entry_field<'a>(
     size: u64,
     least: u64,
 ) -> Result<(u32, Ptr, &'a [u8]), FieldFault>
-    ensures { Gives (λ x. ((x.0, x.1), x.2.now)) result (entry_field limits.now.devices limits.now.places size least bytes.now) }
+    ensures { FieldGives (λ x. ((x.0, x.1), x.2.now)) result (entry_field limits.now.devices limits.now.places size least bytes.now) }
 {
     let (block, at_ptr) = u32_field(bytes)?;
     rule(

@@ -23,12 +23,12 @@ impl Tree {
         ensures replaced { IfOk result (λ before. Replaces self.old self.new dataset file block slot before) }
         ensures err { OnErr result (self.new ≡ self.old) }
     {
-        let (dataset_index, file_index) = self.place_of(dataset, file);
+        let (dataset_index, file_index) = self.path_of(dataset, file);
         put_in_dataset(&mut self.datasets, dataset_index, file_index, block, slot)
     }
 
     // Where the dataset and the file with these numbers stand.
-    fn place_of(&self, dataset: u64, file: u64) -> (usize, usize)
+    fn path_of(&self, dataset: u64, file: u64) -> (usize, usize)
         requires { HasFile self.now dataset file }
         ensures { (path : Path) × IsPath self.now dataset file path × (result.0 ≡ path.dataset_index) × (result.1 ≡ path.file_index) }
     {

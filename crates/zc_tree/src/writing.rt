@@ -9,7 +9,7 @@ use zc_blkptr::{Ptr, Slot, encode};
 use zc_num::{Name, NoMemory, Ordered};
 use zc_wire::{put_bytes, put_u32, put_u64};
 
-/// Puts the bytes of the dataset's part behind those of `out`.
+/// Puts the bytes of the dataset's part after those of `out`.
 #[tactic(auto, unfolding(crate::specs::Spelling::dataset_bytes))]
 pub fn put_dataset(dataset: &Dataset, out: &mut Vec<u8>) -> Result<(), NoMemory>
     requires { HasDatasetWidths dataset.now }

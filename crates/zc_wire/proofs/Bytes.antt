@@ -19,7 +19,7 @@ bytes_taken n bytes fits index =
       | inr le ↦ subst IsByte (sym (get_or_past (take n bytes) index 0 (omega (arith, length-take n bytes)))) (lit< tt)
     ]
 
--- bytes behind bytes are bytes
+-- bytes after bytes are bytes
 pub bytes_joined : (front back : List ℕ) → IsBytes front → IsBytes back → IsBytes (front ++ back)
 bytes_joined front back front_fits back_fits index =
     elim (cases_lt index (length front)) [

@@ -7,7 +7,7 @@ use Rattle.zc_wire.specs.declared.fault.CatalogFault.{CatalogFault}
 use Rattle.zc_wire.specs.declared.fault.CatalogFault.TheVariants as catalog
 use Rattle.zc_wire.specs.declared.fields.FieldFault.{FieldFault}
 use Rattle.zc_wire.specs.declared.fields.FieldFault.TheVariants as field
-use Rattle.zc_wire.specs.Fields.{Fails, placed_in, Read, ◌>>=◌, u32_field, u64_field, bytes_field, rule, Answers, Reads, StandsInFront}
+use Rattle.zc_wire.specs.Fields.{FieldFails, placed_in, Read, ◌>>=◌, u32_field, u64_field, bytes_field, rule, FieldAnswers, Reads, StandsInFront}
 use Rattle.zc_wire.proofs.Bytes.{bytes_dropped, bytes_taken}
 use Rattle.zc_wire.proofs.Numbers.{u32_bytes_length, u64_bytes_length, u32_spelled_back, u64_spelled_back, u32_below, u64_below, u32_read_back, u64_read_back}
 
@@ -38,7 +38,7 @@ pub record Takes (bytes text rest : List ℕ) : Type 0 where
   pub parts : bytes ≡ text ++ rest
   pub rest_fits : IsBytes rest
 
--- one text behind the other
+-- one text after the other
 pub takes_then : (a x b y c : List ℕ) → Takes a x b → Takes b y c → Takes a (x ++ y) c
 takes_then a x b y c p q = record { parts = p.parts ∙ ap (λ (t : List ℕ). x ++ t) q.parts ∙ sym (append_assoc x y c); rest_fits = q.rest_fits }
 
@@ -130,7 +130,7 @@ front_of_takes bytes text rest taken takes is =
     record { length_is = width; joined = takes.parts ∙ ap (λ (t : List ℕ). text ++ t) (sym behind) }
 
 -- what a reader answers where the read answers this value
-pub answer_reads : {X : Type 0} (bytes text rest : List ℕ) (result : Result (X × ℕ) CatalogFault) (read : Read X) (x : X) → bytes ≡ text ++ rest → read ≡ Ok (x, rest) → Answers (length bytes) result read → Reads result x (length text)
+pub answer_reads : {X : Type 0} (bytes text rest : List ℕ) (result : Result (X × ℕ) CatalogFault) (read : Read X) (x : X) → bytes ≡ text ++ rest → read ≡ Ok (x, rest) → FieldAnswers (length bytes) result read → Reads result x (length text)
 answer_reads {X} bytes text rest (Ok y) read x parts is answer =
     let found : X × List ℕ = (y.0, answer.0) in
     let sought : X × List ℕ = (x, rest) in
@@ -142,6 +142,6 @@ answer_reads bytes text rest (Err catalog.NoMemory) read x parts is answer = tt
 answer_reads bytes text rest (Err (catalog.BadCatalog at)) read x parts is answer = let clash = sym is ∙ answer.1 in absurd cc
 
 -- a fault of a read, placed among all bytes
-pub fault_answers : {X : Type 0} (total : ℕ) (fault : FieldFault) (placed : CatalogFault) (read : Read X) → placed ≡ placed_in total fault → Fails fault read → Answers {X = X} total (Err placed) read
-fault_answers {X} total field.NoMemory placed read is fails = subst (λ (e : CatalogFault). Answers {X = X} total (Err e) read) (sym is) tt
-fault_answers {X} total (field.Bad left) placed read is fails = subst (λ (e : CatalogFault). Answers {X = X} total (Err e) read) (sym is) (left, fails, refl)
+pub fault_answers : {X : Type 0} (total : ℕ) (fault : FieldFault) (placed : CatalogFault) (read : Read X) → placed ≡ placed_in total fault → FieldFails fault read → FieldAnswers {X = X} total (Err placed) read
+fault_answers {X} total field.NoMemory placed read is fails = subst (λ (e : CatalogFault). FieldAnswers {X = X} total (Err e) read) (sym is) tt
+fault_answers {X} total (field.Bad left) placed read is fails = subst (λ (e : CatalogFault). FieldAnswers {X = X} total (Err e) read) (sym is) (left, fails, refl)

@@ -4,6 +4,6 @@ use Rattle.zc_wire.specs.declared.fault.WireFault.{WireFault}
 use Rattle.zc_wire.specs.declared.fault.WireFault.TheVariants.{Short, Trailing}
 
 -- how many bytes stand before the place where the read failed
-abbrev pub place_of : WireFault → ℕ
-place_of (Short at) = at
-place_of (Trailing at) = at
+abbrev pub fault_place : WireFault → ℕ
+fault_place (Short at) = at
+fault_place (Trailing at) = at

@@ -1,6 +1,6 @@
--- Fields, read one behind the other from the front of bytes, each with the rules that it has to keep.
+-- Fields, read one after the other from the front of bytes, each with the rules that it has to keep.
 --
--- A read answers the value and the bytes behind it. Where the next field isn't there whole, or breaks a rule that it has to keep
+-- A read answers the value and the bytes after it. Where the next field isn't there whole, or breaks a rule that it has to keep
 -- with the fields before it, the read answers how many bytes are left from the first byte of that field on.
 use Rattle.std.specs.Prelude.{◌≡◌, ℕ, ◌-◌, Bool, List, ◌++◌, take, drop, length, Result, Ok, Err, nat_lt, if◌then◌else◌}
 use Rattle.zc_wire.specs.declared.fault.CatalogFault.{CatalogFault}
@@ -36,13 +36,13 @@ abbrev pub rule : Bool → List ℕ → Result (Unit {0}) ℕ
 rule test bytes = if test then Ok tt else Err (length bytes)
 
 -- what a function answered, seen by view, is what the read answers, unless memory was wanting
-abbrev pub Fails : {Y : Type 0} → FieldFault → Result Y ℕ → Type 0
-Fails field.NoMemory read = Unit {0}
-Fails (field.Bad left) read = read ≡ Err left
+abbrev pub FieldFails : {Y : Type 0} → FieldFault → Result Y ℕ → Type 0
+FieldFails field.NoMemory read = Unit {0}
+FieldFails (field.Bad left) read = read ≡ Err left
 
-abbrev pub Gives : {X Y : Type 0} → (X → Y) → Result X FieldFault → Result Y ℕ → Type 0
-Gives view (Ok x) read = read ≡ Ok (view x)
-Gives view (Err fault) read = Fails fault read
+abbrev pub FieldGives : {X Y : Type 0} → (X → Y) → Result X FieldFault → Result Y ℕ → Type 0
+FieldGives view (Ok x) read = read ≡ Ok (view x)
+FieldGives view (Err fault) read = FieldFails fault read
 
 -- a fault among so many bytes, with its place counted from their front
 abbrev pub placed_in : ℕ → FieldFault → CatalogFault
@@ -51,10 +51,10 @@ placed_in total (field.Bad left) = catalog.BadCatalog (total - left)
 
 -- What a reader of a part answered is what the read answers of so many bytes, unless memory was wanting: the value and how many
 -- bytes it took, or the place of the first byte of the first field that isn't there whole or breaks a rule.
-abbrev pub Answers : {X : Type 0} → ℕ → Result (X × ℕ) CatalogFault → Read X → Type 0
-Answers total (Ok x) read = (rest : List ℕ) × (read ≡ Ok (x.0, rest)) × (x.1 ≡ total - length rest)
-Answers total (Err catalog.NoMemory) read = Unit {0}
-Answers total (Err (catalog.BadCatalog at)) read = (left : ℕ) × (read ≡ Err left) × (at ≡ total - left)
+abbrev pub FieldAnswers : {X : Type 0} → ℕ → Result (X × ℕ) CatalogFault → Read X → Type 0
+FieldAnswers total (Ok x) read = (rest : List ℕ) × (read ≡ Ok (x.0, rest)) × (x.1 ≡ total - length rest)
+FieldAnswers total (Err catalog.NoMemory) read = Unit {0}
+FieldAnswers total (Err (catalog.BadCatalog at)) read = (left : ℕ) × (read ≡ Err left) × (at ≡ total - left)
 
 -- a reader of a part answered this value and this number of bytes, unless memory was wanting
 abbrev pub Reads : {X : Type 0} → Result (X × ℕ) CatalogFault → X → ℕ → Type 0

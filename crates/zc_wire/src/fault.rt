@@ -1,6 +1,6 @@
 // Why bytes are not what they should be.
 ghost use Rattle.std.specs.Prelude.{◌≡◌};
-ghost use Rattle.zc_wire.specs.Fault.{place_of};
+ghost use Rattle.zc_wire.specs.Fault.{fault_place};
 ghost use Rattle.zc_wire.specs.declared.fault.CatalogFault.TheVariants.{NoMemory as no_memory, BadCatalog};
 
 use std::alloc::{AllocError, AllocFailed};
@@ -24,7 +24,7 @@ pub enum CatalogFault {
 }
 
 impl From<WireFault> for CatalogFault {
-    ghost from_gives = { λ fault error. error ≡ BadCatalog (place_of fault) };
+    ghost from_gives = { λ fault error. error ≡ BadCatalog (fault_place fault) };
 
     fn from(fault: WireFault) -> CatalogFault {
         match fault {

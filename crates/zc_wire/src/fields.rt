@@ -1,6 +1,6 @@
-// Fields, read one behind the other from the front of bytes.
+// Fields, read one after the other from the front of bytes.
 ghost use Rattle.std.specs.Prelude.{◌≡◌, ◌<◌, ◌≤◌, length, IfOk};
-ghost use Rattle.zc_wire.specs.Fields.{u32_field, u64_field, bytes_field, rule, Gives, placed_in};
+ghost use Rattle.zc_wire.specs.Fields.{u32_field, u64_field, bytes_field, rule, FieldGives, placed_in};
 ghost use Rattle.zc_wire.specs.declared.fields.FieldFault.TheVariants.{NoMemory as no_memory};
 
 use crate::CatalogFault;
@@ -46,9 +46,9 @@ impl<T: Drop> From<AllocFailed<T>> for FieldFault {
     }
 }
 
-/// A number in four bytes, and the bytes behind it.
+/// A number in four bytes, and the bytes after it.
 pub fn u32_field(bytes: &[u8]) -> Result<(u32, &[u8]), FieldFault>
-    ensures { Gives (λ x. (x.0, x.1.now)) result (u32_field bytes.now) }
+    ensures { FieldGives (λ x. (x.0, x.1.now)) result (u32_field bytes.now) }
 {
     if bytes.len() < 4 {
         return Err(FieldFault::Bad { left: bytes.len() });
@@ -57,9 +57,9 @@ pub fn u32_field(bytes: &[u8]) -> Result<(u32, &[u8]), FieldFault>
     Ok((u32_in(front), rest))
 }
 
-/// A number in eight bytes, and the bytes behind it.
+/// A number in eight bytes, and the bytes after it.
 pub fn u64_field(bytes: &[u8]) -> Result<(u64, &[u8]), FieldFault>
-    ensures { Gives (λ x. (x.0, x.1.now)) result (u64_field bytes.now) }
+    ensures { FieldGives (λ x. (x.0, x.1.now)) result (u64_field bytes.now) }
 {
     if bytes.len() < 8 {
         return Err(FieldFault::Bad { left: bytes.len() });
@@ -68,9 +68,9 @@ pub fn u64_field(bytes: &[u8]) -> Result<(u64, &[u8]), FieldFault>
     Ok((u64_in(front), rest))
 }
 
-/// So many bytes, and the bytes behind them.
+/// So many bytes, and the bytes after them.
 pub fn bytes_field(bytes: &[u8], n: usize) -> Result<(&[u8], &[u8]), FieldFault>
-    ensures gives { Gives (λ x. (x.0.now, x.1.now)) result (bytes_field n bytes.now) }
+    ensures gives { FieldGives (λ x. (x.0.now, x.1.now)) result (bytes_field n bytes.now) }
     ensures width { IfOk result (λ x. length x.0.now ≡ n) }
 {
     if bytes.len() < n {
@@ -81,7 +81,7 @@ pub fn bytes_field(bytes: &[u8], n: usize) -> Result<(&[u8], &[u8]), FieldFault>
 
 /// Whether the field at the front of the bytes keeps its rules.
 pub fn rule(holds: bool, bytes: &[u8]) -> Result<(), FieldFault>
-    ensures { Gives (λ _. tt) result (rule holds bytes.now) }
+    ensures { FieldGives (λ _. tt) result (rule holds bytes.now) }
 {
     if holds {
         Ok(())

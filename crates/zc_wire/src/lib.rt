@@ -9,8 +9,6 @@ mod cursor;
 mod fault;
 mod fields;
 mod put;
-#[cfg(test)]
-mod tests;
 
 pub use cursor::Cursor;
 pub use fault::{CatalogFault, WireFault};

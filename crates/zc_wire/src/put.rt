@@ -1,4 +1,4 @@
-// Bytes and numbers behind those of a vector.
+// Bytes and numbers after those of a vector.
 ghost use Rattle.std.specs.Prelude.{◌≡◌, ◌++◌, OnOk, OnErr};
 ghost use Rattle.zc_wire.specs.Numbers.{u32_bytes, u64_bytes};
 
@@ -25,7 +25,7 @@ pub fn bytes_of_u64(value: u64) -> [u8; 8]
     bytes
 }
 
-/// Puts bytes behind those of `out`.
+/// Puts bytes after those of `out`.
 pub fn put_bytes(out: &mut Vec<u8>, bytes: &[u8]) -> Result<(), NoMemory>
     ensures put { OnOk result (out.new.items ≡ out.old.items ++ bytes.now) }
     ensures unchanged { OnErr result (out.new.items ≡ out.old.items) }
@@ -33,7 +33,7 @@ pub fn put_bytes(out: &mut Vec<u8>, bytes: &[u8]) -> Result<(), NoMemory>
     out.extend_from_slice(bytes)
 }
 
-/// Puts the four bytes of a number behind those of `out`.
+/// Puts the four bytes of a number after those of `out`.
 pub fn put_u32(out: &mut Vec<u8>, value: u32) -> Result<(), NoMemory>
     ensures put { OnOk result (out.new.items ≡ out.old.items ++ u32_bytes value) }
     ensures unchanged { OnErr result (out.new.items ≡ out.old.items) }
@@ -41,7 +41,7 @@ pub fn put_u32(out: &mut Vec<u8>, value: u32) -> Result<(), NoMemory>
     put_bytes(out, &bytes_of_u32(value))
 }
 
-/// Puts the eight bytes of a number behind those of `out`.
+/// Puts the eight bytes of a number after those of `out`.
 pub fn put_u64(out: &mut Vec<u8>, value: u64) -> Result<(), NoMemory>
     ensures put { OnOk result (out.new.items ≡ out.old.items ++ u64_bytes value) }
     ensures unchanged { OnErr result (out.new.items ≡ out.old.items) }

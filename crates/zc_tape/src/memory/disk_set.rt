@@ -117,6 +117,7 @@ impl DiskSet for MemoryDisks {
         ensures asked { asked_of self.new ≡ asked_of self.old }
         ensures failing { failing_of self.new ≡ failing_of self.old }
         ensures spare { OnOk result (calls ≤ spare_of self.new) }
+        ensures never_falls { spare_of self.old ≤ spare_of self.new }
         ensures tape { tape_of self.new ≡ tape_of self.old }
         ensures shape { shape_of self.new ≡ shape_of self.old }
         ensures faults { faults_of self.new ≡ faults_of self.old }

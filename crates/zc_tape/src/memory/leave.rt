@@ -4,7 +4,7 @@ ghost use Rattle.std.specs.List.{list_all};
 ghost use Rattle.zc_tape.specs.declared.entry.Entry.{Entry};
 ghost use Rattle.zc_tape.specs.declared.keep.Keep.TheVariants.{Old};
 ghost use Rattle.zc_tape.specs.Blocks.{image, made_of, is_there};
-ghost use Rattle.zc_tape.specs.Crash.{with_call, Left};
+ghost use Rattle.zc_tape.specs.Crash.{with_call, unsynced_at, Left};
 ghost use Rattle.zc_tape.specs.LastSync.{writes_of, is_synced, IsLastSync};
 ghost use Rattle.zc_tape.specs.Memory.{shape_of, faults_of, tape_of, failing_of, asked_of, half, keep_of, kept, left_by};
 
@@ -126,7 +126,39 @@ fn between(entries: &[Entry], from: usize, to: usize) -> &[Entry]
     &front[from..]
 }
 
+/// The entries after the last Ok sync, with the one that is under way in the moment.
+fn unsynced_entries(entries: &[Entry], last: usize, moment: usize) -> &[Entry]
+    requires order { last ≤ moment }
+    requires within { moment ≤ length entries.now }
+    ensures value { map made_of result.now ≡ drop last (take (moment + 1) (map made_of entries.now)) }
+    ensures pass { (test : Entry → Bool) → list_all test entries.now ≡ true → list_all test result.now ≡ true }
+{
+    let end = (moment + 1).min(entries.len());
+    between(entries, last, end)
+}
+
+/// How many writes there are among the entries.
+fn count_writes(entries: &[Entry]) -> usize
+    ensures { result ≡ length (writes_of (map made_of entries.now)) }
+{
+    let mut writes = 0;
+    for entry in entries {
+        writes = writes_with(entry, writes);
+    }
+    writes
+}
+
 impl MemoryDisks {
+    /// How many writes a crash in a moment decides: those that no Ok sync has made durable, failed ones and the one
+    /// under way among them. A moment past the last call is as the last one.
+    pub fn unsynced(&self, moment: u64) -> u64
+        ensures { result ≡ length (unsynced_at (tape_of self.now) moment) }
+    {
+        let calls = (moment as usize).min(self.entries.len());
+        let last = last_sync(&self.entries, calls);
+        count_writes(unsynced_entries(&self.entries, last, calls)) as u64
+    }
+
     /// Makes the starting blocks those that a crash leaves in a moment.
     fn leave_in(&self, moment: usize, choice: &[Keep], blocks: &mut [[u8; 4096]])
         requires moment { moment ≤ length (tape_of self.now).calls }
@@ -134,10 +166,9 @@ impl MemoryDisks {
         ensures { image (shape_of self.now).places blocks.new ≡ left_by (tape_of self.now) moment choice.now }
     {
         let last = last_sync(&self.entries, moment);
-        let end = (moment + 1).min(self.entries.len());
         let synced = between(&self.entries, 0, last);
         replay(blocks, self.devices, self.places, synced);
-        let unsynced = between(&self.entries, last, end);
+        let unsynced = unsynced_entries(&self.entries, last, moment);
         keep_entries(blocks, self.devices, self.places, unsynced, choice);
     }
 

@@ -1,4 +1,4 @@
--- Five pieces, each behind the one before.
+-- Five pieces, each after the one before.
 use Rattle.std.proofs.Common.{◌∙◌}
 use Rattle.zc_blkptr.proofs.Spelling.{five_written}
 use Rattle.zc_blkptr.proofs.writing.encode_ptr.Goals as goal

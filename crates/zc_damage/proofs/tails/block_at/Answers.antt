@@ -1,7 +1,7 @@
 -- The block is found, or lies in the half that is left, or nowhere.
 use Rattle.std.proofs.Common.{◌∙◌, ◌+◌, ◌-◌, ◌/◌, ℕ, ◌<◌, length, sym, ap, arith}
 use Rattle.zc_damage.specs.Places.{number_of, bytes_of}
-use Rattle.zc_damage.proofs.BlockLaws.{found_there, more_before, more_behind, nowhere, number_here}
+use Rattle.zc_damage.proofs.BlockLaws.{found_there, more_before, more_after, nowhere, number_here}
 use Rattle.zc_damage.proofs.tails.block_at.Goals as goal
 
 pub returns-then-found-wanted : goal.returns-then-found-wanted
@@ -33,7 +33,7 @@ loop-low-preserved c =
     record {
       within = omega arith;
       before = c.loop-low.invariant.before;
-      behind = more_behind places (number_of places c.args.device c.args.place) c.args.blocks.now middle c.requires inside (omega arith);
+      behind = more_after places (number_of places c.args.device c.args.place) c.args.blocks.now middle c.requires inside (omega arith);
     }
 
 pub returns : goal.returns

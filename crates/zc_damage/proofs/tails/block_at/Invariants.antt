@@ -2,7 +2,7 @@ use Rattle.std.proofs.Common.{ℕ, ◌-◌, ◌<◌, ◌≤◌, length, get_or}
 use Rattle.zc_damage.specs.Places.{number_of, numbers_of}
 use Rattle.zc_damage.proofs.tails.block_at.Given as goal
 
--- the blocks before the part that is left are before the place, and those behind it behind the place
+-- the blocks before the part that is left are before the place, and those after it after the place
 abbrev pub invariant-loop-low : goal.invariant-loop-low
 invariant-loop-low l = record {
   within : l.high ≤ length l.blocks;

@@ -1,7 +1,7 @@
 use Rattle.std.proofs.Common.{◌≡◌, ◌≤◌}
 use Rattle.zc_tape.specs.Crash.{reads}
 use Rattle.zc_damage.specs.Places.{numbers_of}
-use Rattle.zc_image.specs.Answers.{IsWhole}
+use Rattle.zc_image.specs.ReadAnswers.{IsWhole}
 use Rattle.zc_image.specs.Gathering.{IsRisingTo, AreBlocksBelow}
 use Rattle.zc_image.proofs.BlockSteps.{AreGathered}
 use Rattle.zc_image.proofs.blocks.read_blocks.Given as goal

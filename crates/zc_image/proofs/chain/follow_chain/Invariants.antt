@@ -1,7 +1,7 @@
 use Rattle.std.proofs.Common.{◌≡◌, ◌≤◌}
 use Rattle.zc_tape.specs.Crash.{reads}
 use Rattle.zc_damage.specs.Places.{ChainPlaces}
-use Rattle.zc_image.specs.Answers.{IsWhole}
+use Rattle.zc_image.specs.ReadAnswers.{IsWhole}
 use Rattle.zc_image.proofs.ChainSteps.{IsFollowed}
 use Rattle.zc_image.proofs.chain.follow_chain.Given as goal
 

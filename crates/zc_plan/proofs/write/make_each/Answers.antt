@@ -16,7 +16,7 @@ loop-call-preserved g c = (
   omega (arith, c.in-Ok.ensures.spare, c.loop-call.invariant.2),
   omega (arith, c.in-Ok.ensures.cause.later, c.loop-call.invariant.3),
   performed_more (g.D.DiskSet.tape c.args.disks.now) (g.D.DiskSet.tape c.loop-call.disks) (g.D.DiskSet.tape c.perform_one.new.disks) c.args.calls.now c.loop-call.call-index c.call-item.result
-      (omega arith) c.call-item.is c.loop-call.invariant.0 c.loop-call.invariant.4 c.in-Ok.ensures.tape,
+      (omega arith) c.call-item.is c.loop-call.invariant.4 c.in-Ok.ensures.tape,
   omega (arith, c.loop-call.invariant.5),
   one_more_counted (g.D.DiskSet.tape c.args.disks.now) (g.D.DiskSet.tape c.loop-call.disks) (g.D.DiskSet.tape c.perform_one.new.disks) (call_of c.call-item.result) _ c.loop-call.made
       c.loop-call.invariant.0 c.loop-call.invariant.6 c.in-Ok.ensures.tape,

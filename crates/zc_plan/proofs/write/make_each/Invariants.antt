@@ -9,6 +9,6 @@ invariant-loop-call g l =
     × (g.D.DiskSet.shape l.disks ≡ g.D.DiskSet.shape l.initial.disks)
     × (g.D.DiskSet.spare l.initial.disks ≤ g.D.DiskSet.spare l.disks + l.call-index)
     × (g.D.DiskSet.faults l.initial.disks ≤ g.D.DiskSet.faults l.disks)
-    × Played (g.D.DiskSet.tape l.initial.disks) (g.D.DiskSet.tape l.disks) (map call_of (take l.call-index l.calls)) true
+    × Played (g.D.DiskSet.tape l.initial.disks) (map call_of (take l.call-index l.calls)) (g.D.DiskSet.tape l.disks) true
     × (l.made ≡ l.call-index)
     × (IsTrue (g.D.DiskSet.tape l.initial.disks).told → length (g.D.DiskSet.tape l.disks).calls ≡ length (g.D.DiskSet.tape l.initial.disks).calls + l.made)

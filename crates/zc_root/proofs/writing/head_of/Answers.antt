@@ -1,4 +1,4 @@
--- Eleven pieces, each behind the one before.
+-- Eleven pieces, each after the one before.
 use Rattle.std.proofs.Common.{◌∙◌}
 use Rattle.zc_root.proofs.Written.{head_written}
 use Rattle.zc_root.proofs.writing.head_of.Goals as goal

@@ -1,4 +1,4 @@
--- The first bytes of the map stand behind what was there, and the rest has its room.
+-- The first bytes of the map stand after what was there, and the rest has its room.
 use Rattle.std.proofs.Common.{◌≡◌, ◌+◌, ◌-◌, ◌≤◌, ◌++◌, vec_len, vec_capacity}
 use Rattle.zc_num.specs.Words.{each}
 use Rattle.zc_spacemap.specs.MapBytes.{map_byte, kept_places}

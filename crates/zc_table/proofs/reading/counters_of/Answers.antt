@@ -1,4 +1,4 @@
--- The counters that are read, one behind the other.
+-- The counters that are read, one after the other.
 use Rattle.std.proofs.Common.{◌≡◌, ◌∙◌, ℕ, ◌++◌, ◌∷◌, [], ap}
 use Rattle.std.proofs.lemmas.Result.{err_from_is_err_and}
 use Rattle.zc_table.specs.TableBytes.{counters_field}

@@ -1,4 +1,4 @@
--- The entries that are read, one behind the other.
+-- The entries that are read, one after the other.
 use Rattle.std.proofs.lemmas.Result.{err_from_is_err_and}
 use Rattle.zc_table.specs.TableBytes.{entries_field}
 use Rattle.zc_table.proofs.ReadLoops.{entry_goes_on, entry_ends, entries_done}

@@ -1,4 +1,4 @@
--- The entries of each region behind those before them.
+-- The entries of each region after those before them.
 use Rattle.std.proofs.Common.{ℕ, ◌+◌, ◌*◌, List, arith}
 use Rattle.std.specs.List.{flat_map}
 use Rattle.zc_table.specs.Counts.{entries_in}

@@ -1,4 +1,4 @@
--- The number, the entries and the counters, each behind the one before.
+-- The number, the entries and the counters, each after the one before.
 use Rattle.std.proofs.Common.{◌≡◌, ◌∙◌, ℕ, List, ◌++◌, length, sym, ap, append_assoc}
 use Rattle.std.specs.List.{flat_map}
 use Rattle.zc_wire.specs.Numbers.{u32_bytes}

@@ -1,4 +1,4 @@
--- Each entry of the region behind those before it; a region whose counts sum to 0 has none.
+-- Each entry of the region after those before it; a region whose counts sum to 0 has none.
 use Rattle.std.proofs.Common.{◌≡◌, ◌∙◌, ℕ, ◌+◌, ◌-◌, ◌*◌, ◌/◌, min, List, ◌++◌, length, sym, ap, arith}
 use Rattle.std.specs.List.{flat_map}
 use Rattle.zc_table.specs.declared.stored.StoredCount.{StoredCount}

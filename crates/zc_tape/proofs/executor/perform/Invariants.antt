@@ -9,4 +9,4 @@ invariant-loop-call g l =
     × (g.D.DiskSet.shape l.disks ≡ g.D.DiskSet.shape l.initial.disks)
     × (g.D.DiskSet.spare l.initial.disks ≤ g.D.DiskSet.spare l.disks + l.call-index)
     × (g.D.DiskSet.faults l.initial.disks ≤ g.D.DiskSet.faults l.disks)
-    × Played (g.D.DiskSet.tape l.initial.disks) (g.D.DiskSet.tape l.disks) (map call_of (take l.call-index l.calls)) true
+    × Played (g.D.DiskSet.tape l.initial.disks) (map call_of (take l.call-index l.calls)) (g.D.DiskSet.tape l.disks) true

@@ -1,12 +1,12 @@
 use Rattle.std.proofs.Common.{◌≡◌, ℕ, List, refl, ap, sym, ◌∙◌}
-use Rattle.zc_io.specs.Gives.{gives_of}
+use Rattle.zc_io.specs.GivenBack.{gives_of}
 use Rattle.zc_io.specs.Slots.{under, with_held}
-use Rattle.zc_io.specs.declared.slots.Held.{Held}
+use Rattle.zc_io.specs.declared.slots.Stored.{Stored}
 use Rattle.zc_io.proofs.Stocks.{stock_laid, here_laid, laid_from_held}
 use Rattle.zc_io.proofs.memory_shelf.MemoryShelf.put.Goals as goal
 
 after : (c : goal.Joined-exchange-2) → under c.exchange.new.self ≡ with_held (under c.args.self.now.slots) c.args.name.now c.laid.result
-after c = c.exchange.ensures.after ∙ ap (λ (holds : List ℕ → Held). with_held holds c.args.name.now c.laid.result) c.reserve.ensures.same
+after c = c.exchange.ensures.after ∙ ap (λ (holds : List ℕ → Stored). with_held holds c.args.name.now c.laid.result) c.reserve.ensures.same
 
 pub returns-in-Ok-clause-stock : goal.returns-in-Ok-clause-stock
 returns-in-Ok-clause-stock c =

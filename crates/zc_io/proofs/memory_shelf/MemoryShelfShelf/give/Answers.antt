@@ -1,6 +1,6 @@
 use Rattle.std.proofs.Common.{◌≡◌, Bool, true, false, ◌++◌, [], ◌∷◌, refl, ap, sym, ◌∙◌}
 use Rattle.std.specs.Result.{is_ok}
-use Rattle.zc_io.specs.Gives.{gives_of, gave_of}
+use Rattle.zc_io.specs.GivenBack.{gives_of, gave_of}
 use Rattle.zc_io.specs.Slots.{under}
 use Rattle.zc_io.specs.Stock.{Gave}
 use Rattle.zc_io.proofs.Stocks.{stock_dropped, stock_brought}

@@ -1,5 +1,5 @@
 use Rattle.std.proofs.Common.{◌≡◌, refl}
-use Rattle.zc_io.specs.Gives.{gives_of}
+use Rattle.zc_io.specs.GivenBack.{gives_of}
 use Rattle.zc_io.specs.Slots.{under, with_held, taken_out}
 use Rattle.zc_io.proofs.Stocks.{stock_taken}
 use Rattle.zc_io.proofs.memory_shelf.MemoryShelfShelf.take.Goals as goal

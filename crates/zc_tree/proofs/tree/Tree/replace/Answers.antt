@@ -5,4 +5,4 @@ use Rattle.zc_tree.proofs.tree.Tree.replace.Goals as goal
 pub returns-clause-replaced : goal.returns-clause-replaced
 returns-clause-replaced c =
     replaced_there c.put_in_dataset.result c.args.self.now c.put_in_dataset.new.datasets c.args.dataset c.args.file c.args.block c.args.slot
-    c.place_of-dataset_index.result.0 c.place_of-dataset_index.result.1 c.place_of-dataset_index.ensures c.put_in_dataset.ensures.put
+    c.path_of-dataset_index.result.0 c.path_of-dataset_index.result.1 c.path_of-dataset_index.ensures c.put_in_dataset.ensures.put

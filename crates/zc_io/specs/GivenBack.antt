@@ -1,7 +1,7 @@
 -- The disk sets that were given back to a shelf in memory.
 use Rattle.std.specs.Prelude.{ℕ, ◌+◌, Bool, List, [], ◌∷◌, ◌++◌, Some, None}
 use Rattle.zc_io.specs.declared.gives.Given.{Given, Given', Held-Given-before, None', Some'}
-use Rattle.zc_io.specs.declared.gives.Gives.{Gives}
+use Rattle.zc_io.specs.declared.gives.GivenBack.{GivenBack}
 use Rattle.zc_io.specs.Stock.{Gave}
 use Rattle.zc_tape.specs.declared.memory.MemoryDisks.{MemoryDisks}
 use Rattle.zc_tape.specs.Memory.{shape_of, tape_of, faults_of}
@@ -29,9 +29,9 @@ abbrev mutual
   faults_before (Some' marker given) = faults_to given
 
 -- the sets that were given back, the first first
-abbrev pub gives_of : Gives → List Gave
+abbrev pub gives_of : GivenBack → List Gave
 gives_of gives = elim gives.last [ None ↦ [] | Some last ↦ gives_to last.value ]
 
 -- how often a call of the sets that were given back has failed
-abbrev pub faults_given : Gives → ℕ
+abbrev pub faults_given : GivenBack → ℕ
 faults_given gives = elim gives.last [ None ↦ 0 | Some last ↦ faults_to last.value ]

@@ -1,7 +1,7 @@
 -- The closure only tests, so what it keeps is a filter.
 use Rattle.std.proofs.Common.{rules}
 use Rattle.std.proofs.lemmas.Fn.{filter_same}
-use Rattle.zc_plain.proofs.tally.keep_behind.Goals as goal
+use Rattle.zc_plain.proofs.tally.keep_after.Goals as goal
 
 pub returns : goal.returns
 returns c = filter_same _ _ _ (λ x b f' k. search rules) _ _ c.retain.ensures.filtered

@@ -1,6 +1,6 @@
 -- The places that are found are those of a path of the tree.
 use Rattle.zc_tree.proofs.SlotLaws.{file_is_there, places_are_a_path}
-use Rattle.zc_tree.proofs.tree.Tree.place_of.Goals as goal
+use Rattle.zc_tree.proofs.tree.Tree.path_of.Goals as goal
 
 pub file_place-file_index-requires : goal.file_place-file_index-requires
 file_place-file_index-requires c =
