@@ -14,7 +14,7 @@ use Rattle.zc_tree.specs.Reach.{pointers_of_file, pointers_of_files, pointers_of
 use Rattle.zc_heart.specs.declared.changes.Now.TheVariants as now
 use Rattle.zc_heart.specs.declared.changes.Change.{Change}
 use Rattle.zc_heart.specs.declared.changes.Change.TheVariants.{MakeDataset, DropDataset, MakeFile, DropFile, Size, Put}
-use Rattle.zc_heart.specs.Changes.{change_by, without, number_of_dataset, number_of_file, in_dataset, in_file, with_file, first_of, changed, is_made, left_behind, made_in}
+use Rattle.zc_heart.specs.Changes.{change_by, without, number_of_dataset, number_of_file, in_dataset, in_file, with_file, first_of, changed, is_made, left_after, made_in}
 use Rattle.zc_apply.specs.Alike.{AreAlike, AreSlotsAlike, IsFileAlike, AreFilesAlike, IsDatasetAlike, AreDatasetsAlike, IsAlike}
 
 -- ---- choices that fall alike
@@ -84,7 +84,7 @@ files_without P id (x ∷ xs) (y ∷ ys) alike =
     chosen (AreFilesAlike P) (not (x.id == id)) (not (y.id == id)) (x ∷ without number_of_file id xs) (y ∷ without number_of_file id ys)
     (without number_of_file id xs) (without number_of_file id ys) (ap (λ (n : ℕ). not (n == id)) alike.0.id) (alike.0, others) others
 
--- and where one more that is alike comes behind them
+-- and where one more that is alike comes after them
 files_with_one : (P : Ptr → Ptr → Type 0) (xs ys : List File) (x y : File) → AreFilesAlike P xs ys → IsFileAlike P x y → AreFilesAlike P (xs ++ x ∷ []) (ys ++ y ∷ [])
 files_with_one P [] [] x y alike one = (one, tt)
 files_with_one P [] (b ∷ ys) x y alike one = absurd alike
@@ -187,7 +187,7 @@ changed_alike P (Put dataset file block (now.Made bytes)) ptr ptr' tree other go
     (λ x y same. record { id = same.id; name = same.name; size = same.size; slots = slots_put P block ptr ptr' x.slots y.slots (go refl) same.slots })
     tree other alike
 
--- the first of pointers that go together, where there is one, and those behind it
+-- the first of pointers that go together, where there is one, and those after it
 first_alike : (P : Ptr → Ptr → Type 0) (b : Bool) (change : Change) (changes : List Change) (ptrs others : List Ptr) → AreAlike P ptrs others
     → length (cond b (change ∷ changes) changes) ≤ length ptrs → b ≡ true → P (first_of ptrs) (first_of others)
 first_alike P false change changes ptrs others go enough is = absurd (true≢false (sym is))
@@ -202,7 +202,7 @@ rest_alike P true [] (other ∷ others) go = absurd go
 rest_alike P true (ptr ∷ ptrs) [] go = absurd go
 rest_alike P true (ptr ∷ ptrs) (other ∷ others) go = go.1
 
--- enough pointers for changes are enough for those behind the first
+-- enough pointers for changes are enough for those after the first
 rest_enough : (b : Bool) (change : Change) (changes : List Change) (ptrs : List Ptr) → length (cond b (change ∷ changes) changes) ≤ length ptrs → length changes ≤ length (cond b (drop 1 ptrs) ptrs)
 rest_enough false change changes ptrs enough = enough
 rest_enough true change changes [] enough = absurd (omega arith)
@@ -214,7 +214,7 @@ pub made_alike : (P : Ptr → Ptr → Type 0) (changes : List Change) (ptrs othe
 made_alike P [] ptrs others tree other go enough alike = alike
 made_alike P (change ∷ changes) ptrs others tree other go enough alike =
     let made = filter is_made changes in
-    made_alike P changes (left_behind change ptrs) (left_behind change others) (changed change (first_of ptrs) tree) (changed change (first_of others) other)
+    made_alike P changes (left_after change ptrs) (left_after change others) (changed change (first_of ptrs) tree) (changed change (first_of others) other)
     (rest_alike P (is_made change) ptrs others go)
     (rest_enough (is_made change) change made ptrs enough)
     (changed_alike P change (first_of ptrs) (first_of others) tree other (first_alike P (is_made change) change made ptrs others go enough) alike)
@@ -228,8 +228,8 @@ here x xs = Contains-append_left (x ∷ []) xs x (Contains-push [] x)
 behind : {X : Type 0} (x y : X) (xs : List X) → Contains xs y → Contains (x ∷ xs) y
 behind x y xs among = Contains-append_right (x ∷ []) xs y among
 
-here_or_behind : {X : Type 0} (x y : X) (xs : List X) → Contains (x ∷ xs) y → (x ≡ y) ⊎ Contains xs y
-here_or_behind x y xs among = ⊎_elim (λ first. inl (alone first)) (λ other. inr other) (Contains-append_cases (x ∷ []) xs y among)
+here_or_after : {X : Type 0} (x y : X) (xs : List X) → Contains (x ∷ xs) y → (x ≡ y) ⊎ Contains xs y
+here_or_after x y xs among = ⊎_elim (λ first. inl (alone first)) (λ other. inr other) (Contains-append_cases (x ∷ []) xs y among)
   where
     alone : Contains (x ∷ []) y → x ≡ y
     alone (zero, within, is) = is
@@ -306,7 +306,7 @@ slots_go P (e ∷ es) (f ∷ fs) ptr alike among =
     ⊎_elim
     (λ (same : e.1 ≡ ptr). (f.1, subst (λ (p : Ptr). P p f.1) same alike.1))
     (λ (other : Contains (map (λ e. e.1) es) ptr). slots_go P es fs ptr alike.2 other)
-    (here_or_behind e.1 ptr (map (λ e. e.1) es) among)
+    (here_or_after e.1 ptr (map (λ e. e.1) es) among)
 
 files_go : (P : Ptr → Ptr → Type 0) (xs ys : List File) (ptr : Ptr) → AreFilesAlike P xs ys → Contains (pointers_of_files xs) ptr → (other : Ptr) × P ptr other
 files_go P [] ys ptr alike among = nothing ptr among

@@ -13,7 +13,7 @@ use Rattle.zc_tree.specs.declared.tree.LogState.TheVariants.{Normal}
 use Rattle.zc_tree.specs.declared.tree.Dataset.{Dataset}
 use Rattle.zc_tree.specs.declared.tree.Tree.{Tree}
 use Rattle.zc_tree.specs.Names.{AreNewTo}
-use Rattle.zc_tree.specs.Spelling.{AscendFrom, IsFile, IsLogState, IsDataset, IsBehind}
+use Rattle.zc_tree.specs.Spelling.{AscendFrom, IsFile, IsLogState, IsDataset, IsAfter}
 use Rattle.zc_tree.specs.Catalogue.{AreDatasets}
 use Rattle.zc_plain.specs.declared.plain_pool.PlainFile.{PlainFile}
 use Rattle.zc_plain.specs.declared.plain_pool.PlainDataset.{PlainDataset}
@@ -25,7 +25,7 @@ use Rattle.zc_heart.specs.Changes.{Placing, dataset_of, datasets_of, tree_of}
 use Rattle.zc_apply.specs.Alike.{IsDatasetAlike, AreDatasetsAlike, IsAlike}
 use Rattle.zc_apply.specs.Named.{IsNamed, AreNamed, AreAreas}
 use Rattle.zc_heart.specs.Core.{AreApart}
-use Rattle.zc_apply.proofs.NumberLaws.{numbered_behind, first_below, first_differs, numbers_ascend, names_new, AreOtherAreas, areas_none, areas_more}
+use Rattle.zc_apply.proofs.NumberLaws.{numbered_after, first_below, first_differs, numbers_ascend, names_new, AreOtherAreas, areas_none, areas_more}
 use Rattle.zc_apply.proofs.FileLaws.{files_are}
 
 pointers_are : (plain : PlainDataset) → pointers_in plain ≡ sum_by (λ (file : PlainFile). made_count file.blocks) plain.files
@@ -81,7 +81,7 @@ module _ (devices places : ℕ) (limits : AreLimits devices places) (P : Ptr →
   abbrev HaveOtherNames : List Dataset → List PlainDataset → Type 0
   HaveOtherNames others plains = (place : ℕ) (plain : PlainDataset) → StandsAt plains place plain → list_any (λ (other : Dataset). bytes_eq other.name plain.name) others ≡ false
 
-  record AreBehind (others : List Dataset) (areas : List ℕ) (plains : List PlainDataset) : Type 0 where
+  record AreAfter (others : List Dataset) (areas : List ℕ) (plains : List PlainDataset) : Type 0 where
     above : AreAbove others plains
     other_names : HaveOtherNames others plains
     other_areas : AreOtherAreas others areas
@@ -94,9 +94,9 @@ module _ (devices places : ℕ) (limits : AreLimits devices places) (P : Ptr →
     below : AllByRecursion (λ area. area < 8) areas
     apart : AreApart areas
 
-  known_behind : (area : ℕ) (areas : List ℕ) (plain : PlainDataset) (plains : List PlainDataset) → AreKnown (area ∷ areas) (plain ∷ plains) → AreKnown areas plains
-  known_behind area areas plain plains known = record {
-    numbered = numbered_behind id_of name_of next plain plains known.numbered;
+  known_after : (area : ℕ) (areas : List ℕ) (plain : PlainDataset) (plains : List PlainDataset) → AreKnown (area ∷ areas) (plain ∷ plains) → AreKnown areas plains
+  known_after area areas plain plains known = record {
+    numbered = numbered_after id_of name_of next plain plains known.numbered;
     named = known.named.1;
     each = λ place other stands. known.each (suc place) other stands;
     count = omega (arith, known.count);
@@ -104,10 +104,10 @@ module _ (devices places : ℕ) (limits : AreLimits devices places) (P : Ptr →
     apart = known.apart.1;
   }
 
-  -- they are behind one dataset more
-  behind_more : (others : List Dataset) (dataset : Dataset) (area : ℕ) (areas : List ℕ) (plain : PlainDataset) (plains : List PlainDataset) → AreKnown (area ∷ areas) (plain ∷ plains)
-      → AreBehind others (area ∷ areas) (plain ∷ plains) → IsDatasetAlike P dataset (dataset_of placing area plain) → AreBehind (others ++ dataset ∷ []) areas plains
-  behind_more others dataset area areas plain plains known behind is = record {
+  -- they are after one dataset more
+  after_more : (others : List Dataset) (dataset : Dataset) (area : ℕ) (areas : List ℕ) (plain : PlainDataset) (plains : List PlainDataset) → AreKnown (area ∷ areas) (plain ∷ plains)
+      → AreAfter others (area ∷ areas) (plain ∷ plains) → IsDatasetAlike P dataset (dataset_of placing area plain) → AreAfter (others ++ dataset ∷ []) areas plains
+  after_more others dataset area areas plain plains known behind is = record {
     above = λ place other stands.
         list_all-append (λ (d : Dataset). ltb d.id other.id) others (dataset ∷ [])
         ∙ and_from (list_all (λ (d : Dataset). ltb d.id other.id) others) (ltb dataset.id other.id && true) (behind.above (suc place) other stands)
@@ -119,7 +119,7 @@ module _ (devices places : ℕ) (limits : AreLimits devices places) (P : Ptr →
     other_areas = areas_more others dataset area areas is.slot known.apart.0 behind.other_areas.1;
   }
 
-  datasets_are : (others : List Dataset) (areas : List ℕ) (plains : List PlainDataset) (datasets : List Dataset) → AreKnown areas plains → AreBehind others areas plains
+  datasets_are : (others : List Dataset) (areas : List ℕ) (plains : List PlainDataset) (datasets : List Dataset) → AreKnown areas plains → AreAfter others areas plains
       → AreDatasetsAlike P datasets (datasets_of placing areas plains) → AreDatasets devices places group next others datasets × (length datasets ≡ length plains)
   datasets_are others [] [] [] known behind are = (tt, refl)
   datasets_are others [] [] (dataset ∷ datasets) known behind are = absurd are
@@ -130,12 +130,12 @@ module _ (devices places : ℕ) (limits : AreLimits devices places) (P : Ptr →
       let is = are.0 in
       let own : IsDataset devices places group next dataset =
       dataset_is area plain dataset (known.numbered.from_one 0 plain refl) (known.numbered.below_next 0 plain refl) known.below.0 known.named.0 (known.each 0 plain refl) is in
-      let after : IsBehind others dataset = record {
+      let after : IsAfter others dataset = record {
         above = subst (λ (id : ℕ). IsTrue (list_all (λ (other : Dataset). ltb other.id id) others)) (sym is.id) (behind.above 0 plain refl);
         other_slot = subst (λ (slot : ℕ). list_any (λ (other : Dataset). eqb other.slot slot) others ≡ false) (sym is.slot) behind.other_areas.0;
         other_name = subst (λ (name : List ℕ). list_any (λ (other : Dataset). bytes_eq other.name name) others ≡ false) (sym is.name) (behind.other_names 0 plain refl);
       } in
-      let rest = datasets_are (others ++ dataset ∷ []) areas plains datasets (known_behind area areas plain plains known) (behind_more others dataset area areas plain plains known behind is) are.1 in
+      let rest = datasets_are (others ++ dataset ∷ []) areas plains datasets (known_after area areas plain plains known) (after_more others dataset area areas plain plains known behind is) are.1 in
       ((own, after, rest.0), ap (λ (n : ℕ). suc n) rest.1)
 
 -- what a root has to have of the tree

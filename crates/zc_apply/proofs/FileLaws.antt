@@ -18,7 +18,7 @@ use Rattle.zc_plain.specs.PlainPool.{blocks_of_size, is_made, made_count}
 use Rattle.zc_plain.specs.IsPlain.{StandsAt, AreNumbered, IsPlainFile}
 use Rattle.zc_heart.specs.Changes.{Placing, slots_from, file_of}
 use Rattle.zc_apply.specs.Alike.{AreSlotsAlike, IsFileAlike, AreFilesAlike}
-use Rattle.zc_apply.proofs.NumberLaws.{ascend_lower, numbered_behind}
+use Rattle.zc_apply.proofs.NumberLaws.{ascend_lower, numbered_after}
 
 -- ---- blocks that were made
 
@@ -109,7 +109,7 @@ module _ (devices places : ℕ) (limits : AreLimits devices places) (P : Ptr →
   files_are next (plain ∷ plains) [] numbered named plain_are few are = absurd are
   files_are next (plain ∷ plains) (file ∷ files) numbered named plain_are few are =
       let first = file_is next plain file (numbered.from_one 0 plain refl) (numbered.below_next 0 plain refl) named.0 (few 0 plain refl) (plain_are 0 plain refl) are.0 in
-      let rest = files_are next plains files (numbered_behind (λ (f : PlainFile). f.id) (λ (f : PlainFile). f.name) next plain plains numbered) named.1
+      let rest = files_are next plains files (numbered_after (λ (f : PlainFile). f.id) (λ (f : PlainFile). f.name) next plain plains numbered) named.1
       (λ place other stands. plain_are (suc place) other stands) (λ place other stands. few (suc place) other stands) are.1 in
       record {
         count = ap (λ (n : ℕ). suc n) rest.count;

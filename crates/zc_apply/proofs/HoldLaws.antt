@@ -54,7 +54,7 @@ placed_alike bytes_at pool (Put dataset file block (now.Made bytes) ∷ changes)
     subst (λ (files : List PlainFile). AreAlike (HasBytes bytes_at) (ptr ∷ ptrs) (stamp_placed by_bytes (block_in files block) ++ others)) (sym stand.0.1)
     (put_placed bytes_at bytes (block_in (stand.0.0 ∷ []) block) ptr ptrs others stand.0.2 placed.0 go)
 
--- the real tree holds the pool behind the group, where its changes make that pool's tree, each put stands in the pool, and its bytes
+-- the real tree holds the pool after the group, where its changes make that pool's tree, each put stands in the pool, and its bytes
 -- are at the place that it was given
 pub next_holds : (bytes_at : ℕ → ℕ → List ℕ) (before_areas areas : List ℕ) (before pool : PlainPool) (changes : List Change) (tree : Tree) (placed : List Ptr) (group : ℕ)
     → ((g : ℕ) → made_in changes (placed_by_all by_bytes pool changes) (tree_of g by_bytes before_areas before) ≡ tree_of g by_bytes areas pool)

@@ -55,7 +55,7 @@ none_changed change (suc k) (item ∷ items) stay =
     ap (λ other. other ∷ changed_up_to change k items) (stay 0 item (omega arith))
     ∙ ap (λ others. item ∷ others) (none_changed change k items (λ j d below. stay (suc j) d (omega arith)))
 
--- all are changed where the change leaves those behind the first k
+-- all are changed where the change leaves those after the first k
 pub all_changed : {X : Type 0} (change : X → X) (k : ℕ) (items : List X) → ((j : ℕ) (d : X) → k ≤ j → j < length items → change (get_or items j d) ≡ get_or items j d)
     → changed_up_to change k items ≡ map change items
 all_changed change zero [] stay = refl
@@ -74,8 +74,8 @@ each_changed change old now' k past so_far = so_far ∙ all_changed change k old
 pub before_first : (files : List File) (id first last : ℕ) (change : File → File) → AreWithin files id first last → files ≡ changed_up_to (by_number number_of_file id change) first files
 before_first files id first last change within = sym (none_changed (by_number number_of_file id change) first files (λ j d below. other_number number_of_file id change (get_or files j d) (within.none_before j d below)))
 
--- and behind the last one none is
-pub behind_last : (files now' : List File) (id first last k : ℕ) (change : File → File) → AreWithin files id first last → last ≤ k → now' ≡ changed_up_to (by_number number_of_file id change) k files
+-- and after the last one none is
+pub after_last : (files now' : List File) (id first last k : ℕ) (change : File → File) → AreWithin files id first last → last ≤ k → now' ≡ changed_up_to (by_number number_of_file id change) k files
     → now' ≡ change_by number_of_file id change files
-behind_last files now' id first last k change within past so_far =
-    so_far ∙ all_changed (by_number number_of_file id change) k files (λ j d from inside. other_number number_of_file id change (get_or files j d) (within.none_behind j d (omega arith) inside))
+after_last files now' id first last k change within past so_far =
+    so_far ∙ all_changed (by_number number_of_file id change) k files (λ j d from inside. other_number number_of_file id change (get_or files j d) (within.none_later j d (omega arith) inside))

@@ -8,7 +8,7 @@ use Rattle.zc_tree.specs.declared.tree.Tree.{Tree}
 use Rattle.zc_heart.specs.declared.changes.Now.TheVariants as now
 use Rattle.zc_heart.specs.declared.changes.Change.{Change}
 use Rattle.zc_heart.specs.declared.changes.Change.TheVariants.{MakeDataset, DropDataset, MakeFile, DropFile, Size, Put}
-use Rattle.zc_heart.specs.Changes.{changed, first_of, is_made, left_behind, made_in}
+use Rattle.zc_heart.specs.Changes.{changed, first_of, is_made, left_after, made_in}
 
 -- a change takes the first pointer where it takes one
 pub takes_first : (change : Change) (ptr : Ptr) (ptrs : List Ptr) (tree : Tree) → (is_made change ≡ true → 0 < length ptrs) → (0 < length ptrs → ptr ≡ first_of ptrs)
@@ -38,16 +38,16 @@ length_left false ptrs rest count enough = omega arith
 
 -- and what it leaves is enough for the others
 pub enough_for_others : (changes : List Change) (k : ℕ) (change : Change) (ptrs : List Ptr) → k < length changes → change ≡ get_or changes k change → count_by is_made (drop k changes) ≤ length ptrs
-    → count_by is_made (drop (k + 1) changes) ≤ length (left_behind change ptrs)
+    → count_by is_made (drop (k + 1) changes) ≤ length (left_after change ptrs)
 enough_for_others changes k change ptrs within here enough =
     let more : count_by is_made (drop k changes) ≡ cond (is_made change) 1 0 + count_by is_made (drop (k + 1) changes) =
     ap (count_by is_made) (drop_more changes k change within) ∙ sum_by-cons (λ (other : Change). cond (is_made other) 1 0) (get_or changes k change) (drop (k + 1) changes)
     ∙ ap (λ (other : Change). cond (is_made other) 1 0 + count_by is_made (drop (k + 1) changes)) (sym here) in
     length_left (is_made change) ptrs (count_by is_made (drop (k + 1) changes)) 0 (omega (arith, more, enough))
 
--- what is left to do behind one change
-pub made_behind : (changes : List Change) (k : ℕ) (change : Change) (ptrs : List Ptr) (tree next : Tree) → k < length changes → change ≡ get_or changes k change → next ≡ changed change (first_of ptrs) tree
-    → made_in (drop (k + 1) changes) (left_behind change ptrs) next ≡ made_in (drop k changes) ptrs tree
-made_behind changes k change ptrs tree next within here made =
+-- what is left to do after one change
+pub made_after : (changes : List Change) (k : ℕ) (change : Change) (ptrs : List Ptr) (tree next : Tree) → k < length changes → change ≡ get_or changes k change → next ≡ changed change (first_of ptrs) tree
+    → made_in (drop (k + 1) changes) (left_after change ptrs) next ≡ made_in (drop k changes) ptrs tree
+made_after changes k change ptrs tree next within here made =
     let uncovered : drop k changes ≡ change ∷ drop (k + 1) changes = drop_more changes k change within ∙ ap (λ (other : Change). other ∷ drop (k + 1) changes) (sym here) in
-    ap (made_in (drop (k + 1) changes) (left_behind change ptrs)) made ∙ ap (λ (others : List Change). made_in others ptrs tree) (sym uncovered)
+    ap (made_in (drop (k + 1) changes) (left_after change ptrs)) made ∙ ap (λ (others : List Change). made_in others ptrs tree) (sym uncovered)

@@ -26,8 +26,8 @@ next_up : (a b : ℕ) → a < b → a + 1 ≤ b
 next_up a b below = omega (arith, below)
 
 module _ {X : Type 0} (number_of : X → ℕ) (name_of : X → List ℕ) (next : ℕ) where
-  pub numbered_behind : (x : X) (xs : List X) → AreNumbered number_of name_of next (x ∷ xs) → AreNumbered number_of name_of next xs
-  numbered_behind x xs are = record {
+  pub numbered_after : (x : X) (xs : List X) → AreNumbered number_of name_of next (x ∷ xs) → AreNumbered number_of name_of next xs
+  numbered_after x xs are = record {
     next_from_one = are.next_from_one;
     from_one = λ a y stands. are.from_one (suc a) y stands;
     below_next = λ a y stands. are.below_next (suc a) y stands;
@@ -46,14 +46,14 @@ module _ {X : Type 0} (number_of : X → ℕ) (name_of : X → List ℕ) (next :
   numbers_ascend least [] are low = tt
   numbers_ascend least (x ∷ xs) are low = (
     low 0 x refl,
-    numbers_ascend (number_of x + 1) xs (numbered_behind x xs are) (λ a y stands. next_up (number_of x) (number_of y) (first_below x xs are a y stands)),
+    numbers_ascend (number_of x + 1) xs (numbered_after x xs are) (λ a y stands. next_up (number_of x) (number_of y) (first_below x xs are a y stands)),
   )
 
   pub names_new : (others : List (List ℕ)) (xs : List X) → AreNumbered number_of name_of next xs → ((a : ℕ) (x : X) → StandsAt xs a x → is_among (name_of x) others ≡ false) → AreNewTo others (map name_of xs)
   names_new others [] are apart = tt
   names_new others (x ∷ xs) are apart = (
     apart 0 x refl,
-    names_new (name_of x ∷ others) xs (numbered_behind x xs are)
+    names_new (name_of x ∷ others) xs (numbered_after x xs are)
         (λ a y stands. or_from (bytes_eq (name_of x) (name_of y)) (is_among (name_of y) others) (first_differs x xs are a y stands) (apart (suc a) y stands)),
   )
 

@@ -16,7 +16,7 @@ use Rattle.zc_heart.specs.declared.changes.Now.TheVariants as now
 use Rattle.zc_heart.specs.declared.changes.Change.{Change}
 use Rattle.zc_heart.specs.declared.changes.Change.TheVariants.{MakeDataset, DropDataset, MakeFile, DropFile, Size, Put}
 use Rattle.zc_heart.specs.Changes.{change_by, without, number_of_dataset, number_of_file, with_file, with_slot, changed}
-use Rattle.zc_apply.specs.InParts.{by_number, changed_up_to, Rises, AreRising, IsAbove, IsNewBehind, AreWithin}
+use Rattle.zc_apply.specs.InParts.{by_number, changed_up_to, Rises, AreRising, IsAbove, IsNewAfter, AreWithin}
 use Rattle.zc_apply.proofs.MappedLaws.{next_unchanged}
 
 -- no files rise, and no datasets do
@@ -44,7 +44,7 @@ stands_here files id middle file rise inside is =
       ordered = omega arith;
       fits = omega arith;
       none_before = λ k d before equal. omega (arith, same d, rise k middle d before inside);
-      none_behind = λ k d from within equal. omega (arith, same d, rise middle k d (omega arith) within);
+      none_later = λ k d from within equal. omega (arith, same d, rise middle k d (omega arith) within);
     }
 
 -- those up to one with a lower number have lower ones, and those from one with a higher number have higher ones
@@ -124,7 +124,7 @@ with_slot_keeps block now.Hole ptr file = refl
 with_slot_keeps block (now.Made bytes) ptr file = refl
 
 -- the files rise once a change is made, whose new file is above the others
-pub rising_changed : (change : Change) (ptr : Ptr) (tree : Tree) → IsNewBehind change tree.datasets → AreRising tree.datasets → AreRising (changed change ptr tree).datasets
+pub rising_changed : (change : Change) (ptr : Ptr) (tree : Tree) → IsNewAfter change tree.datasets → AreRising tree.datasets → AreRising (changed change ptr tree).datasets
 unfolding changed
 rising_changed (MakeDataset id slot name) ptr tree behind rise = All-push (λ (dataset : Dataset). Rises dataset.files) tree.datasets _ rise none_rise
 rising_changed (DropDataset id) ptr tree behind rise = All-filter (λ (dataset : Dataset). not (dataset.id == id)) (λ (dataset : Dataset). Rises dataset.files) tree.datasets rise

@@ -52,17 +52,17 @@ abbrev pub IsAbove : ℕ → ℕ → Dataset → Type 0
 IsAbove id number dataset = dataset.id ≡ id → All (λ (file : File). file.id < number) dataset.files
 
 -- a file that the change makes has a number above those before it
-abbrev pub IsNewBehind : Change → List Dataset → Type 0
-IsNewBehind (MakeDataset id slot name) datasets = Unit {0}
-IsNewBehind (DropDataset id) datasets = Unit {0}
-IsNewBehind (MakeFile dataset file name) datasets = All (IsAbove dataset file) datasets
-IsNewBehind (DropFile dataset file) datasets = Unit {0}
-IsNewBehind (Size dataset file size) datasets = Unit {0}
-IsNewBehind (Put dataset file block now) datasets = Unit {0}
+abbrev pub IsNewAfter : Change → List Dataset → Type 0
+IsNewAfter (MakeDataset id slot name) datasets = Unit {0}
+IsNewAfter (DropDataset id) datasets = Unit {0}
+IsNewAfter (MakeFile dataset file name) datasets = All (IsAbove dataset file) datasets
+IsNewAfter (DropFile dataset file) datasets = Unit {0}
+IsNewAfter (Size dataset file size) datasets = Unit {0}
+IsNewAfter (Put dataset file block now) datasets = Unit {0}
 
 -- the files with the number stand from the one place up to the other
 pub record AreWithin (files : List File) (id first last : ℕ) : Type 0 where
   pub ordered : first ≤ last
   pub fits : last ≤ length files
   pub none_before : (k : ℕ) (d : File) → k < first → (get_or files k d).id ≡ id → ⊥
-  pub none_behind : (k : ℕ) (d : File) → last ≤ k → k < length files → (get_or files k d).id ≡ id → ⊥
+  pub none_later : (k : ℕ) (d : File) → last ≤ k → k < length files → (get_or files k d).id ≡ id → ⊥

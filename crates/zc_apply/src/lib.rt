@@ -8,7 +8,5 @@ mod copying;
 mod making;
 mod next;
 mod rising;
-#[cfg(test)]
-mod tests;
 
 pub use next::{count_made, next_tree};

@@ -48,14 +48,14 @@ pub(crate) fn make_change(
     }
 }
 
-// The number behind this one. Behind the last number of all there is none.
+// The number after this one. After the last number of all there is none.
 fn next_number(id: u64) -> Result<u64, NoMemory>
     ensures { IfOk result (λ next. next ≡ id + 1) }
 {
     id.checked_add(1).ok_or(NoMemory)
 }
 
-// Adds a dataset without files behind the others.
+// Adds a dataset without files after the others.
 fn add_dataset(
     alloc: Global,
     tree: &mut Tree,
@@ -173,7 +173,7 @@ fn change_dataset(
     }
 }
 
-// Adds a file without bytes behind the others.
+// Adds a file without bytes after the others.
 fn add_file(alloc: Global, dataset: &mut Dataset, id: u64, name: &Name) -> Result<(), NoMemory>
     ensures { OnOk result (dataset.new ≡ with_file id name.now dataset.old) }
 {

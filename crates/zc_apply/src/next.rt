@@ -1,6 +1,6 @@
 // The changes of a group, made in a copy of the tree before.
 ghost use Rattle.std.specs.Prelude.{◌≡◌, ◌<◌, ◌≤◌, true, IsTrue, IfOk, OnOk, length, count_by};
-ghost use Rattle.zc_heart.specs.Changes.{is_made, left_behind, first_of, changed, made_in};
+ghost use Rattle.zc_heart.specs.Changes.{is_made, left_after, first_of, changed, made_in};
 ghost use Rattle.zc_apply.specs.InParts.{AreRising};
 
 use crate::copying::copy_tree;
@@ -16,7 +16,7 @@ use zc_tree::Tree;
 /// pointers, under the group's number. `count_made` says how many pointers that takes.
 ///
 /// # Errors
-/// Want of memory, and a dataset or a file that is made under the last number of all, behind which there is no next one.
+/// Want of memory, and a dataset or a file that is made under the last number of all, after which there is no next one.
 pub fn next_tree(
     alloc: Global,
     tree: &Tree,
@@ -67,7 +67,7 @@ fn make_changes(
     let mut ptrs = placed;
     for change in changes {
         rising = make_next(alloc, tree, rising, change, ptrs)?;
-        ptrs = left_behind(change, ptrs);
+        ptrs = left_after(change, ptrs);
     }
     Ok(())
 }
@@ -106,9 +106,9 @@ fn first_of(ptrs: &[Ptr]) -> Ptr
     }
 }
 
-// The pointers that are left behind the change.
-fn left_behind<'a>(change: &Change, ptrs: &'a [Ptr]) -> &'a [Ptr]
-    ensures { result.now ≡ left_behind change.now ptrs.now }
+// The pointers that are left after the change.
+fn left_after<'a>(change: &Change, ptrs: &'a [Ptr]) -> &'a [Ptr]
+    ensures { result.now ≡ left_after change.now ptrs.now }
 {
     if is_made(change) && !ptrs.is_empty() {
         &ptrs[1..]

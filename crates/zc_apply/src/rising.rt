@@ -1,7 +1,7 @@
 // Files whose numbers rise, as in every real tree, and where one with a number can stand.
 ghost use Rattle.std.specs.Prelude.{◌≡◌, ◌<◌, ◌≤◌, IsTrue, All, length};
 ghost use Rattle.zc_tree.specs.declared.tree.File.{File};
-ghost use Rattle.zc_apply.specs.InParts.{Rises, AreRising, IsAbove, IsNewBehind, AreWithin};
+ghost use Rattle.zc_apply.specs.InParts.{Rises, AreRising, IsAbove, IsNewAfter, AreWithin};
 
 use zc_heart::Change;
 use zc_tree::{Dataset, File};
@@ -23,7 +23,7 @@ fn is_rising(files: &[File]) -> bool
     ensures { IsTrue result → Rises files.now }
 {
     for k in 0..files.len() {
-        if !is_behind(&files[..k], files[k].id) {
+        if !is_after(&files[..k], files[k].id) {
             return false;
         }
     }
@@ -31,7 +31,7 @@ fn is_rising(files: &[File]) -> bool
 }
 
 // Whether the number is above that of the last file, and so above each where they rise.
-fn is_behind(files: &[File], id: u64) -> bool
+fn is_after(files: &[File], id: u64) -> bool
     ensures { IsTrue result → Rises files.now → All (λ (file : File). file.id < id) files.now }
 {
     match files.last() {
@@ -43,16 +43,16 @@ fn is_behind(files: &[File], id: u64) -> bool
 /// Whether the numbers are known to rise still once the change is made: a new file has one above those of its dataset's files.
 pub(crate) fn still_rise(rising: bool, change: &Change, datasets: &[Dataset]) -> bool
     ensures was { IsTrue result → IsTrue rising }
-    ensures new_behind { IsTrue result → AreRising datasets.now → IsNewBehind change.now datasets.now }
+    ensures new_after { IsTrue result → AreRising datasets.now → IsNewAfter change.now datasets.now }
 {
     match change {
-        Change::MakeFile { dataset, file, .. } => rising && are_behind(datasets, *dataset, *file),
+        Change::MakeFile { dataset, file, .. } => rising && are_after(datasets, *dataset, *file),
         _ => rising,
     }
 }
 
 // Whether the file's number is above those of the files of each dataset with the number.
-fn are_behind(datasets: &[Dataset], id: u64, file: u64) -> bool
+fn are_after(datasets: &[Dataset], id: u64, file: u64) -> bool
     ensures { IsTrue result → AreRising datasets.now → All (IsAbove id file) datasets.now }
 {
     for k in 0..datasets.len() {
@@ -70,7 +70,7 @@ fn is_above(id: u64, file: u64, dataset: &Dataset) -> bool
     if dataset.id != id {
         return true;
     }
-    is_behind(dataset.files.as_slice(), file)
+    is_after(dataset.files.as_slice(), file)
 }
 
 /// From which place on, and before which, files with the number stand. Where the numbers rise, that is one place at most.

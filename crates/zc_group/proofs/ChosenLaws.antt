@@ -11,14 +11,14 @@ use Rattle.zc_num.specs.declared.numbers.PlaceAt.{PlaceAt}
 use Rattle.zc_blkptr.specs.declared.ptr.Ptr.{Ptr}
 use Rattle.zc_tape.proofs.Places.{both_false}
 use Rattle.zc_tree.specs.Spelling.{AscendFrom}
-use Rattle.zc_damage.specs.Places.{is_owned, is_reached, has_place, number_of, IsPlace, ChainPlaces}
+use Rattle.zc_damage.specs.Places.{is_owned, is_reached, chain_has, number_of, IsPlace, ChainPlaces}
 use Rattle.zc_damage.proofs.PlaceNumbers.{some_places}
 use Rattle.zc_state.specs.State.{IsFree, AreChainPlaces, place_at}
 use Rattle.zc_group.specs.Chosen.{is_free, free_below, free_places}
 
 -- ---- one number more
 
--- one number more behind those from the first on
+-- one number more after those from the first on
 range_from_more : (first n : ℕ) → range_with_len first (suc n) ≡ range_with_len first n ++ (first + n) ∷ []
 range_from_more first zero = ap (λ (k : ℕ). k ∷ []) (sym (add-zero first))
 range_from_more first (suc n) =
@@ -146,7 +146,7 @@ module _ (devices places : ℕ) (taken : List PlaceAt) (reach : List Ptr) (limit
   number_again number = div-add-mod' number places
 
   -- a number below others is none of theirs
-  lacks_lower : (number least : ℕ) (numbers : List ℕ) → number < least → AscendFrom least numbers → has_place places (map (place_at places) numbers) number ≡ false
+  lacks_lower : (number least : ℕ) (numbers : List ℕ) → number < least → AscendFrom least numbers → chain_has places (map (place_at places) numbers) number ≡ false
   lacks_lower number least [] low ascend = refl
   lacks_lower number least (other ∷ numbers) low ascend =
       both_false _ _
@@ -164,8 +164,8 @@ module _ (devices places : ℕ) (taken : List PlaceAt) (reach : List Ptr) (limit
   -- and a catalogue may have it
   free_number : (number : ℕ) → IsOpen number → IsFree devices places (place_at places number)
   free_number number open_is =
-      let owned = or_parts (is_reached places reach number) (has_place places taken number || is_fixed devices places (number / places) (number % places)) (unowned_number number open_is) in
-      let fixed = or_parts (has_place places taken number) (is_fixed devices places (number / places) (number % places)) owned.1 in
+      let owned = or_parts (is_reached places reach number) (chain_has places taken number || is_fixed devices places (number / places) (number % places)) (unowned_number number open_is) in
+      let fixed = or_parts (chain_has places taken number) (is_fixed devices places (number / places) (number % places)) owned.1 in
       record {
         device = div_below number places devices some open_is.0;
         place = mod-lt number some;
@@ -176,7 +176,7 @@ module _ (devices places : ℕ) (taken : List PlaceAt) (reach : List Ptr) (limit
   places_of_numbers least [] ascend all = tt
   places_of_numbers least (number ∷ numbers) ascend all = (
     free_number number all.0,
-    ap (has_place places (map (place_at places) numbers)) (number_again number) ∙ lacks_lower number (number + 1) numbers (omega arith) ascend.1,
+    ap (chain_has places (map (place_at places) numbers)) (number_again number) ∙ lacks_lower number (number + 1) numbers (omega arith) ascend.1,
     places_of_numbers (number + 1) numbers ascend.1 all.1,
   )
 

@@ -32,8 +32,8 @@ use Rattle.zc_plan.specs.declared.input.PlacedBlock.{PlacedBlock}
 use Rattle.zc_plan.proofs.CrashClauses.{group_leaves}
 use Rattle.zc_damage.specs.declared.block.FoundBlock.{FoundBlock}
 use Rattle.zc_damage.specs.Checks.{charge_hit}
-use Rattle.zc_damage.specs.Places.{is_owned, is_reached, has_place, is_at as is_part_at, number_of, IsPlace, ReachPlaces, ChainPlaces}
-use Rattle.zc_state.specs.State.{State, IsState, StandsFor, standing_of, place_of, put_of}
+use Rattle.zc_damage.specs.Places.{is_owned, is_reached, chain_has, is_at as is_part_at, number_of, IsPlace, ReachPlaces, ChainPlaces}
+use Rattle.zc_state.specs.State.{State, IsState, StandsFor, standing_of, place_of_block, put_of}
 use Rattle.zc_state.proofs.BlockLaws.{all_mapped}
 use Rattle.zc_next.specs.Exact.{catalogue_size}
 use Rattle.zc_next.specs.Next.{next_bytes, next_puts, IsNext, IsUnowned, AreNewBlocks}
@@ -41,7 +41,7 @@ use Rattle.zc_next.proofs.NextState.{next_is_state, next_state_leads}
 use Rattle.zc_group.specs.Chosen.{chain_for, free_places}
 use Rattle.zc_group.specs.Kept.{HasSize, HasPlaces}
 use Rattle.zc_group.specs.Spelled.{Spells}
-use Rattle.zc_group.specs.Committed.{found_of, taken_by, state_after, MayFollow, MayCommit, MayLead, LeavesEither, IsCommitted, IsLed, LeavesGroup, MakesGroup}
+use Rattle.zc_group.specs.Committed.{found_of, taken_by, state_after, calls_after, MayFollow, MayCommit, MayLead, LeavesEither, IsCommitted, IsLed, IsGroupBegun, LeavesGroup, MakesGroup}
 use Rattle.zc_group.specs.declared.catalogue.Written.{Written}
 use Rattle.zc_group.specs.declared.committing.CommitFault.{CommitFault}
 use Rattle.zc_group.specs.declared.committing.NextRoot.{NextRoot}
@@ -54,37 +54,37 @@ next_chain shape s tree new = chain_for shape (taken_by s.chain new) (pointers_o
 
 -- what nobody owns where more places are taken, nobody owns where fewer are; and it is none of the others
 unowned_before : (devices places : ℕ) (chain others : List PlaceAt) (reach : List Ptr) (number : ℕ) → is_owned devices places (chain ++ others) reach number ≡ false
-    → (is_owned devices places chain reach number ≡ false) × (has_place places others number ≡ false)
+    → (is_owned devices places chain reach number ≡ false) × (chain_has places others number ≡ false)
 unowned_before devices places chain others reach number none =
     let fixed : Bool = is_fixed devices places (number / places) (number % places) in
-    let one = or_parts (is_reached places reach number) (has_place places (chain ++ others) number || fixed) none in
-    let two = or_parts (has_place places (chain ++ others) number) fixed one.1 in
-    let both = or_parts (has_place places chain number) (has_place places others number) (sym (list_any-append (is_part_at places number) chain others) ∙ two.0) in
+    let one = or_parts (is_reached places reach number) (chain_has places (chain ++ others) number || fixed) none in
+    let two = or_parts (chain_has places (chain ++ others) number) fixed one.1 in
+    let both = or_parts (chain_has places chain number) (chain_has places others number) (sym (list_any-append (is_part_at places number) chain others) ∙ two.0) in
     (both_false _ _ one.0 (both_false _ _ both.0 two.1), both.1)
 
 -- a number that the others have is none of the chosen
-chosen_beside : (places : ℕ) (others chosen : List PlaceAt) (number : ℕ) → AllByRecursion (λ (at : PlaceAt). has_place places others (number_of places at.device at.place) ≡ false) chosen
-    → has_place places others number ≡ true → has_place places chosen number ≡ false
+chosen_beside : (places : ℕ) (others chosen : List PlaceAt) (number : ℕ) → AllByRecursion (λ (at : PlaceAt). chain_has places others (number_of places at.device at.place) ≡ false) chosen
+    → chain_has places others number ≡ true → chain_has places chosen number ≡ false
 chosen_beside places others [] number none there = refl
 chosen_beside places others (at ∷ chosen) number none there =
     both_false _ _
-    (ne_eqb (number_of places at.device at.place) number (λ same. true≢false (sym there ∙ ap (has_place places others) (sym same) ∙ none.0)))
+    (ne_eqb (number_of places at.device at.place) number (λ same. true≢false (sym there ∙ ap (chain_has places others) (sym same) ∙ none.0)))
     (chosen_beside places others chosen number none.1 there)
 
 module _ (shape : Shape) (s : State) where
   -- new blocks beside no place are beside places that none of them has
   beside_chosen : (all chosen : List PlaceAt) (new : List FoundBlock)
-      → ((number : ℕ) → has_place shape.places (map place_of new) number ≡ true → has_place shape.places all number ≡ true)
-      → AllByRecursion (λ (at : PlaceAt). has_place shape.places all (number_of shape.places at.device at.place) ≡ false) chosen
+      → ((number : ℕ) → chain_has shape.places (map place_of_block new) number ≡ true → chain_has shape.places all number ≡ true)
+      → AllByRecursion (λ (at : PlaceAt). chain_has shape.places all (number_of shape.places at.device at.place) ≡ false) chosen
       → AreNewBlocks shape s [] new → AreNewBlocks shape s chosen new
   beside_chosen all chosen [] within none are = tt
   beside_chosen all chosen (block ∷ new) within none are =
       let number : ℕ = number_of shape.places block.device block.place in (
         are.0,
         are.1,
-        chosen_beside shape.places all chosen number none (within number (or_left (is_part_at shape.places number (place_of block)) (has_place shape.places (map place_of new) number) (eq-eqb number number refl))),
+        chosen_beside shape.places all chosen number none (within number (or_left (is_part_at shape.places number (place_of_block block)) (chain_has shape.places (map place_of_block new) number) (eq-eqb number number refl))),
         are.3,
-        beside_chosen all chosen new (λ k there. within k (or_right (is_part_at shape.places k (place_of block)) (has_place shape.places (map place_of new) k) there)) none are.4,
+        beside_chosen all chosen new (λ k there. within k (or_right (is_part_at shape.places k (place_of_block block)) (chain_has shape.places (map place_of_block new) k) there)) none are.4,
       )
 
   module _ (tree : Tree) (new : List FoundBlock) (is : IsState shape s) (follows : MayFollow shape s tree new)
@@ -100,7 +100,7 @@ module _ (shape : Shape) (s : State) where
           let count : ℕ = chain_length (catalogue_size shape.devices shape.places tree) in
           let reach : List Ptr = pointers_of_tree s.parts.tree in
           let nobody = chosen_unowned shape.devices shape.places (taken_by s.chain new) reach is.size count in
-          let others : List PlaceAt = map place_of new in
+          let others : List PlaceAt = map place_of_block new in
           record {
             group_is = follows.group_is;
             group_width = follows.group_width;
@@ -115,7 +115,7 @@ module _ (shape : Shape) (s : State) where
                 (λ at none. (unowned_before shape.devices shape.places s.chain others reach (number_of shape.places at.device at.place) none).0) nobody;
             new_blocks = beside_chosen others next_places new (λ number there. there)
                 (all_mapped (λ (at : PlaceAt). is_owned shape.devices shape.places (taken_by s.chain new) reach (number_of shape.places at.device at.place) ≡ false)
-                (λ (at : PlaceAt). has_place shape.places others (number_of shape.places at.device at.place) ≡ false) next_places
+                (λ (at : PlaceAt). chain_has shape.places others (number_of shape.places at.device at.place) ≡ false) next_places
                 (λ at none. (unowned_before shape.devices shape.places s.chain others reach (number_of shape.places at.device at.place) none).1) nobody)
                 follows.new_blocks;
             pointers = follows.pointers;
@@ -203,11 +203,11 @@ makes_planned t u calls puts body gate_open planned makes old new starts =
 -- ---- places
 
 -- the places that are taken are there
-pub taken_there : (devices places : ℕ) (chain taken : List PlaceAt) (new : List FoundBlock) → ChainPlaces devices places chain → ChainPlaces devices places (map place_of new)
+pub taken_there : (devices places : ℕ) (chain taken : List PlaceAt) (new : List FoundBlock) → ChainPlaces devices places chain → ChainPlaces devices places (map place_of_block new)
     → taken ≡ taken_by chain new → ChainPlaces devices places taken
 taken_there devices places chain taken new chain_there new_there is =
     let P : PlaceAt → Type 0 = λ at. IsPlace devices places at.device at.place in
-    subst (ChainPlaces devices places) (sym is) (All-append P chain (map place_of new) chain_there new_there)
+    subst (ChainPlaces devices places) (sym is) (All-append P chain (map place_of_block new) chain_there new_there)
 
 -- a place of a list that is there
 put_at_place : (devices places : ℕ) (chain : List PlaceAt) (blocks : List (List ℕ)) (d p : ℕ) → AllByRecursion (λ (at : PlaceAt). IsPlace devices places at.device at.place) chain
@@ -221,7 +221,7 @@ put_at_place devices places (at ∷ chain) (block ∷ blocks) d p are there =
     (λ (behind : owns (at_places chain blocks) d p ≡ true). put_at_place devices places chain blocks d p are.1 behind)
     (or_cases (is_at at.device at.place d p) (owns (at_places chain blocks) d p) there)
 
-put_of_block : (devices places : ℕ) (new : List PlacedBlock) (d p : ℕ) → AllByRecursion (λ (at : PlaceAt). IsPlace devices places at.device at.place) (map place_of (map found_of new))
+put_of_block : (devices places : ℕ) (new : List PlacedBlock) (d p : ℕ) → AllByRecursion (λ (at : PlaceAt). IsPlace devices places at.device at.place) (map place_of_block (map found_of new))
     → owns (puts_of new) d p ≡ true → IsPlace devices places d p
 put_of_block devices places [] d p are there = absurd (true≢false (sym there))
 put_of_block devices places (block ∷ new) d p are there =
@@ -246,7 +246,7 @@ chosen_there devices places taken reach tree limits =
 
 -- the disk set has the places of all that the group writes
 pub room_there : (shape : Shape) (devices places pool : ℕ) (taken : List PlaceAt) (reach : List Ptr) (tree : Tree) (new : List PlacedBlock) (written : Written)
-    → AreLimits devices places → devices ≡ shape.devices → places ≡ shape.places → ChainPlaces devices places (map place_of (map found_of new))
+    → AreLimits devices places → devices ≡ shape.devices → places ≡ shape.places → ChainPlaces devices places (map place_of_block (map found_of new))
     → Spells (record { devices = devices; places = places }) pool (chain_for (record { devices = devices; places = places }) taken reach tree) tree written
     → HasRoom shape 0 (puts_of new ++ puts_of written.blocks)
 room_there shape devices places pool taken reach tree new written limits on_devices in_places there spells =
@@ -254,7 +254,7 @@ room_there shape devices places pool taken reach tree new written limits on_devi
     let chain : List PlaceAt = chain_for size taken reach tree in
     let P : PlaceAt → Type 0 = λ at. IsPlace devices places at.device at.place in
     let chosen = recursion_from_All P chain (chosen_there devices places taken reach tree limits) in
-    let given = recursion_from_All P (map place_of (map found_of new)) there in
+    let given = recursion_from_All P (map place_of_block (map found_of new)) there in
     let one : (d p : ℕ) → owns (puts_of new ++ puts_of written.blocks) d p ≡ true → IsPlace devices places d p =
     λ d p owned.
     ⊎_elim
@@ -280,6 +280,21 @@ pub leaves_unwritten : (shape : Shape) (t : Tape) (s : State) (body : Body) (gat
 leaves_unwritten shape t s body gates chain reach tree new may =
     each_crash_as_read May t (λ image. StandsFor shape image s ⊎ StandsFor shape image (state_after shape s tree new)) may_is_kind may.at_rest
     (λ image same. inl (record { state = may.stands.state; stands = stands_where_same (reads t) image (standing_of s) same may.stands.stands }))
+
+-- the flag of the gate of a group's slot says whether it is open
+gate_known : (t : Tape) (gates : List Bool) (group : ℕ) (gate_open : Bool) → AreGates (reads t) gates → gate_open ≡ slice_index_or gates (slot_of group) false → IsTrue gate_open ↔ IsOpenGate (reads t) (slot_of group)
+gate_known t gates group gate_open are flag = subst (λ (is_open : Bool). IsTrue is_open ↔ IsOpenGate (reads t) (slot_of group)) (sym flag) (are.exact (slot_of group) (slot_below group))
+
+-- where nothing was written, no call of the group was made
+pub begun_unwritten : (shape : Shape) (t : Tape) (s : State) (body : Body) (gates : List Bool) (chain : List PlaceAt) (reach : List Ptr) (tree : Tree) (new : List FoundBlock)
+    → MayLead shape t s body gates chain reach tree new → IsGroupBegun shape t t s tree new
+begun_unwritten shape t s body gates chain reach tree new may =
+    let gate_open : Bool = slice_index_or gates (slot_of tree.group) false in
+    record {
+      gate_open = gate_open;
+      gate = gate_known t gates tree.group gate_open may.gates_are refl;
+      begun = none_begun t (calls_after shape s tree new gate_open);
+    }
 
 module _ (shape : Shape) (devices places : ℕ) (t u : Tape) (body : Body) (gates : List Bool) (chain : List PlaceAt) (reach : List Ptr) (tree : Tree) (new : List PlacedBlock) (written : Written)
     (gate_open : Bool) (on_devices : devices ≡ shape.devices) (in_places : places ≡ shape.places)
@@ -319,7 +334,7 @@ module _ (shape : Shape) (devices places : ℕ) (t u : Tape) (body : Body) (gate
     puts_next = ap₂ (λ (xs ys : List Put). xs ++ ys) (puts_found new) spells_next.blocks_are
 
     known : IsTrue gate_open ↔ IsOpenGate (reads t) (slot_of tree.group)
-    known = subst (λ (flag : Bool). IsTrue flag ↔ IsOpenGate (reads t) (slot_of tree.group)) (sym flag) (may.gates_are.exact (slot_of tree.group) (slot_below tree.group))
+    known = gate_known t gates tree.group gate_open may.gates_are flag
 
     starts_next : StartsGroup t (group_calls (next_puts shape places_next tree new_found) after.body gate_open) (standing_of s) (standing_of after) (next_puts shape places_next tree new_found) gate_open
     starts_next =
@@ -335,6 +350,15 @@ module _ (shape : Shape) (devices places : ℕ) (t u : Tape) (body : Body) (gate
         group_leaves_either shape s tree new_found may.stands.state may.follows fits_next spells_next.long_enough t u
         (length t.calls + before_gate (next_puts shape places_next tree new_found) after.body gate_open) (next (standing_of s) (standing_of after) starts_next)
 
+    -- and a front of the calls was made that lead to the next
+    begun_next : (IsTrue t.told → Begun t (group_calls (puts_of new ++ puts_of written.blocks) written.body gate_open) u) → IsGroupBegun shape t u s tree new_found
+    begun_next begun = record {
+      gate_open = gate_open;
+      gate = known;
+      begun = subst (λ (b : Body). Begun t (group_calls (next_puts shape places_next tree new_found) b gate_open) u) spells_next.body_is
+          (subst (λ (puts : List Put). Begun t (group_calls puts written.body gate_open) u) puts_next (begun may.told));
+    }
+
     -- and all of them the next
     next_stands : MakesGroup (puts_of new ++ puts_of written.blocks) written.body gate_open t u → IsLed shape u after after.body after.chain
     next_stands makes =
@@ -346,6 +370,10 @@ module _ (shape : Shape) (devices places : ℕ) (t u : Tape) (body : Body) (gate
   pub leaves_led : LeavesGroup (puts_of new ++ puts_of written.blocks) written.body gate_open t u → (s : State) → MayLead shape t s body gates chain reach tree (map found_of new)
       → LeavesEither shape s (state_after shape s tree (map found_of new)) t u
   leaves_led leaves s may = either_stands s may leaves
+
+  pub begun_led : (IsTrue t.told → Begun t (group_calls (puts_of new ++ puts_of written.blocks) written.body gate_open) u) → (s : State)
+      → MayLead shape t s body gates chain reach tree (map found_of new) → IsGroupBegun shape t u s tree (map found_of new)
+  begun_led begun s may = begun_next s may begun
 
   -- where the body and the places that are handed on are those that were spelled
   pub led : (r : Result NextRoot CommitFault) → OnOk r (MakesGroup (puts_of new ++ puts_of written.blocks) written.body gate_open t u)

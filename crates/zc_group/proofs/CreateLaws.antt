@@ -10,6 +10,7 @@ use Rattle.zc_num.specs.declared.numbers.PlaceAt.{PlaceAt}
 use Rattle.zc_blkptr.specs.declared.ptr.Ptr.{Ptr}
 use Rattle.zc_tape.specs.Tape.{Shape, Image, Tape, Call}
 use Rattle.zc_tape.specs.Crash.{May, reads}
+use Rattle.zc_tape.specs.Plays.{Plays, Begun, Played}
 use Rattle.zc_tape.specs.Tape.{is_at}
 use Rattle.zc_tape.specs.DiskCall.{call_of, AreThere}
 use Rattle.zc_tape.specs.declared.call.Plan.{Plan}
@@ -35,7 +36,8 @@ use Rattle.zc_next.proofs.BlockLists.{holds_there}
 use Rattle.zc_next.proofs.ExactLaws.{exact_is_state, digest_fits}
 use Rattle.zc_next.proofs.NextLaws.{begins_beside_fixed}
 use Rattle.zc_next.proofs.NextState.{first_state_begins}
-use Rattle.zc_group.specs.Created.{first_tree, first_chain, first_state, pool_number, all_log_places, first_puts, HoldsNothing, LeavesFirst, IsFirst, IsPlanned}
+use Rattle.zc_group.specs.Created.{first_tree, first_chain, first_state, pool_number, all_log_places, first_puts, first_calls, HoldsNothing, LeavesFirst, IsFirst, IsPlanned, IsCreationWhole, WritesCreation}
+use Rattle.zc_group.specs.Imported.{StopsAtFailure}
 use Rattle.zc_group.specs.Spelled.{Spells}
 use Rattle.zc_group.specs.declared.catalogue.Written.{Written}
 use Rattle.zc_group.proofs.ChosenLaws.{chosen_places}
@@ -80,8 +82,7 @@ module _ (shape : Shape) (limits : AreLimits shape.devices shape.places) (long :
 
     -- the calls of the creation begin on a tape that holds nothing
     pub first_starts : (t : Tape) (calls : List Call) (gates : List Bool) → HoldsNothing t → AreGates (reads t) gates
-        → calls ≡ creation_calls (slice_index_or gates 0 false) (slice_index_or gates 1 false) (all_log_places shape)
-        (first_puts shape) (first_state shape name).body
+        → calls ≡ first_calls shape name gates
         → StartsCreation t calls (standing_of (first_state shape name))
         (first_puts shape) (slice_index_or gates 0 false) (slice_index_or gates 1 false) (all_log_places shape)
     first_starts t calls gates nothing are planned = record {
@@ -205,23 +206,52 @@ made_first shape name gates t u calls limits planned made nothing are =
     (made (standing_of (first_state shape name)) (first_puts shape) first second (all_log_places shape)
     (first_starts shape limits planned.long_enough name (number_width name) t calls gates nothing are planned.calls_are))
 
+-- a front of the planned calls was made
+pub begun_first : (shape : Shape) (name : List ℕ) (gates : List Bool) (t u : Tape) (calls : List Call) → IsPlanned shape name gates calls → (IsTrue t.told → Begun t calls u)
+    → HoldsNothing t → AreGates (reads t) gates → WritesCreation shape name t u
+begun_first shape name gates t u calls planned begun nothing are =
+    inr (record { gates = gates; gates_are = are; begun = subst (λ (plan : List Call). Begun t plan u) planned.calls_are (begun nothing.told) })
+
+-- or all of them
+pub whole_first : (shape : Shape) (name : List ℕ) (gates : List Bool) (t u : Tape) (calls : List Call) → IsPlanned shape name gates calls → Played t calls u true
+    → HoldsNothing t → AreGates (reads t) gates → IsCreationWhole shape name t u
+whole_first shape name gates t u calls planned played nothing are =
+    record { gates = gates; gates_are = are; made = subst (λ (plan : List Call). Plays t plan u true) planned.calls_are (played nothing.told) }
+
 -- ---- tapes that are the same
 
--- with the flags that were read
+-- what holds with the flags of the gates, holds once they were read
+over_gates : (P : Shape → (t u : Tape) → Type 0) (shape size : Shape) (gates : List Bool) (t read u : Tape) → read ≡ t → size ≡ shape → (IsTrue t.told → HasWholeRoots t → AreGates (reads t) gates)
+    → (HoldsNothing read → AreGates (reads read) gates → P size read u) → HoldsNothing t → P shape t u
+over_gates P shape size gates t read u same_tape same_size flags holds nothing =
+    let here : HoldsNothing t → AreGates (reads t) gates → P shape t u =
+    subst (λ (v : Tape). HoldsNothing v → AreGates (reads v) gates → P shape v u) same_tape
+    (subst (λ (z : Shape). HoldsNothing read → AreGates (reads read) gates → P z read u) same_size holds) in
+    here nothing (flags nothing.told (record { whole = λ place low. nothing.at_rest.whole 0 place }))
+
+-- so with what its calls leave
 pub leaves_over_gates : (shape size : Shape) (name : List ℕ) (gates : List Bool) (t read u : Tape) → read ≡ t → size ≡ shape
     → (IsTrue t.told → HasWholeRoots t → AreGates (reads t) gates) → (HoldsNothing read → AreGates (reads read) gates → LeavesFirst size name read u)
     → HoldsNothing t → LeavesFirst shape name t u
-leaves_over_gates shape size name gates t read u same_tape same_size flags leaves nothing =
-    let here : HoldsNothing t → AreGates (reads t) gates → LeavesFirst shape name t u =
-    subst (λ (v : Tape). HoldsNothing v → AreGates (reads v) gates → LeavesFirst shape name v u) same_tape
-    (subst (λ (z : Shape). HoldsNothing read → AreGates (reads read) gates → LeavesFirst z name read u) same_size leaves) in
-    here nothing (flags nothing.told (record { whole = λ place low. nothing.at_rest.whole 0 place }))
+leaves_over_gates shape size name gates t read u = over_gates (λ z v w. LeavesFirst z name v w) shape size gates t read u
 
+-- with what stands once all were Ok
 pub made_over_gates : (shape size : Shape) (name : List ℕ) (gates : List Bool) (t read u : Tape) → read ≡ t → size ≡ shape
     → (IsTrue t.told → HasWholeRoots t → AreGates (reads t) gates) → (HoldsNothing read → AreGates (reads read) gates → IsFirst size name u)
     → HoldsNothing t → IsFirst shape name u
-made_over_gates shape size name gates t read u same_tape same_size flags made nothing =
-    let here : HoldsNothing t → AreGates (reads t) gates → IsFirst shape name u =
-    subst (λ (v : Tape). HoldsNothing v → AreGates (reads v) gates → IsFirst shape name u) same_tape
-    (subst (λ (z : Shape). HoldsNothing read → AreGates (reads read) gates → IsFirst z name u) same_size made) in
-    here nothing (flags nothing.told (record { whole = λ place low. nothing.at_rest.whole 0 place }))
+made_over_gates shape size name gates t read u = over_gates (λ z _ w. IsFirst z name w) shape size gates t read u
+
+-- and with which calls were made
+pub whole_over_gates : (shape size : Shape) (name : List ℕ) (gates : List Bool) (t read u : Tape) → read ≡ t → size ≡ shape
+    → (IsTrue t.told → HasWholeRoots t → AreGates (reads t) gates) → (HoldsNothing read → AreGates (reads read) gates → IsCreationWhole size name read u)
+    → HoldsNothing t → IsCreationWhole shape name t u
+whole_over_gates shape size name gates t read u = over_gates (λ z v w. IsCreationWhole z name v w) shape size gates t read u
+
+pub begun_over_gates : (shape size : Shape) (name : List ℕ) (gates : List Bool) (t read u : Tape) → read ≡ t → size ≡ shape
+    → (IsTrue t.told → HasWholeRoots t → AreGates (reads t) gates) → (HoldsNothing read → AreGates (reads read) gates → WritesCreation size name read u)
+    → HoldsNothing t → WritesCreation shape name t u
+begun_over_gates shape size name gates t read u = over_gates (λ z v w. WritesCreation z name v w) shape size gates t read u
+
+-- where a call failed, only the last
+pub stops_over_gates : (t read u : Tape) → read ≡ t → (IsTrue read.told → StopsAtFailure read u) → IsTrue t.told → StopsAtFailure t u
+stops_over_gates t read u same stops told = subst (λ (v : Tape). StopsAtFailure v u) same (stops (ap (λ (v : Tape). v.told) same ∙ told))

@@ -1,5 +1,5 @@
 -- What an import reads and what its claim group leads to.
-use Rattle.std.proofs.Common.{◌≡◌, ◌∙◌, ℕ, ◌+◌, ◌^◌, ◌<◌, ◌≤◌, ◌⊎◌, true, List, [], ◌∷◌, map, Ok, Err, IsTrue, refl, sym, ap, ap₂, subst, inl, arith}
+use Rattle.std.proofs.Common.{◌≡◌, ◌∙◌, ℕ, ◌+◌, ◌^◌, ◌<◌, ◌≤◌, ◌⊎◌, true, List, [], ◌∷◌, map, Ok, Err, IsTrue, refl, sym, ap, ap₂, subst, inl, inr, arith}
 use Rattle.std.specs.List.{AllByRecursion, Contains}
 use Rattle.std.proofs.lemmas.List.Elements.{All-from_get_or, recursion_from_All, Contains-get_or}
 use Rattle.zc_num.specs.Limits.{AreLimits}
@@ -27,15 +27,15 @@ use Rattle.zc_state.proofs.BlockLaws.{all_of_two}
 use Rattle.zc_state.proofs.StateLaws.{one_state}
 use Rattle.zc_next.specs.Next.{later_tree, IsKept, IsWritten}
 use Rattle.zc_next.proofs.TreePointers.{later_datasets}
-use Rattle.zc_image.specs.Answers.{IsWhole}
+use Rattle.zc_image.specs.ReadAnswers.{IsWhole, IsDamage as IsReadDamage}
 use Rattle.zc_image.specs.Found.{state_of, IsFault, IsOutside}
 use Rattle.zc_image.proofs.CheckedLaws.{checked_no_logs, checked_tails, checked_one_block, checked_there}
 use Rattle.zc_image.specs.declared.found.Found.{Found}
 use Rattle.zc_image.specs.declared.fault.ImageFault.{ImageFault}
 use Rattle.zc_image.specs.declared.fault.ImageFault.TheVariants.{NoMemory as ReadNoMemory, NoPool as ReadNoPool, DiskFault as ReadFault, Damaged as ReadDamaged}
 use Rattle.zc_group.specs.Kept.{HasSize}
-use Rattle.zc_group.specs.Committed.{found_of, state_after, MayFollow, MayLead, LeavesEither, IsLed}
-use Rattle.zc_group.specs.Imported.{IsTaken, claimed_state, fault_of, IsTakenUp, IsNoAnswer, IsDamageOf, IsFoundOn, IsImport}
+use Rattle.zc_group.specs.Committed.{found_of, state_after, MayFollow, MayLead, LeavesEither, IsLed, IsGroupBegun}
+use Rattle.zc_group.specs.Imported.{IsTaken, claimed_state, fault_of, IsTakenUp, IsNoAnswer, IsDamageOf, IsDamage, WritesClaim, StopsAtFailure, IsFoundOn, IsImport}
 use Rattle.zc_group.specs.declared.import.Imported.{Imported}
 use Rattle.zc_group.specs.declared.import.ImportFault.{ImportFault}
 use Rattle.zc_group.specs.declared.import.ImportFault.TheVariants.{NoMemory, NoPool, DiskFault, Damaged}
@@ -75,19 +75,30 @@ no_pool ReadNoPool is = refl
 no_pool ReadFault is = absurd cc
 no_pool (ReadDamaged damage) is = absurd cc
 
+-- a damage is told where the reader told one
+read_damage : (fault : ImageFault) → IsDamage (fault_of fault) → IsReadDamage fault
+read_damage ReadNoMemory is = absurd is
+read_damage ReadNoPool is = absurd is
+read_damage ReadFault is = absurd is
+read_damage (ReadDamaged damage) is = tt
+
 -- what is answered where a reader told a fault
 pub not_found : (shape : Shape) (t u : Tape) (fault : ImageFault) (told : ImportFault) → u ≡ t → told ≡ fault_of fault → (IsWhole t → IsFault shape (reads t) fault)
     → (IsWhole t → (s : State) → StandsFor shape (reads t) s → IsFresh s → IsOutside fault)
     → (fault ≡ ReadNoPool → IsWhole t → AreLimits shape.devices shape.places → HasNoRoot (reads t))
+    → (IsReadDamage fault → AreLimits shape.devices shape.places)
     → IsImport shape t u (Err told)
-not_found shape t u fault told same told_is exact only none =
+not_found shape t u fault told same told_is exact only none sized =
     let here : IsImport shape t t (Err (fault_of fault)) = record {
       any_moment = λ s is_told rests stands. leaves_at_rest shape t s (claimed_state shape s) rests stands;
       made = tt;
       stood = tt;
       only = λ s whole stands fresh. no_answer fault (only whole s stands fresh);
       damaged = λ whole. same_damage shape (reads t) fault (exact whole);
+      sized = λ is. sized (read_damage fault is);
       none = λ is. none (no_pool fault is);
+      writes = λ is_told rests. inl refl;
+      stops = λ is is_told. inl refl;
     } in
     subst (λ (v : Tape). IsImport shape t v (Err told)) (sym same) (subst (λ (f : ImportFault). IsImport shape t t (Err f)) (sym told_is) here)
 
@@ -137,7 +148,10 @@ module _ (shape : Shape) (t : Tape) (found : Found) (on : IsFoundOn shape t foun
     stood = tt;
     only = λ s whole stands fresh. tt;
     damaged = λ whole. tt;
+    sized = λ is. absurd is;
     none = λ is. absurd cc;
+    writes = λ told rests. inl refl;
+    stops = λ is told. inl refl;
   }
 
   -- the places and the datasets of the claim group
@@ -205,21 +219,40 @@ module _ (shape : Shape) (t : Tape) (found : Found) (on : IsFoundOn shape t foun
 
     module _ (u : Tape)
         (any : (s : State) → MayLead shape t s found.body found.gates chain reach (later_tree (state_of found)) (map found_of new)
-        → LeavesEither shape s (state_after shape s (later_tree (state_of found)) (map found_of new)) t u) where
+        → LeavesEither shape s (state_after shape s (later_tree (state_of found)) (map found_of new)) t u)
+        (begun : (s : State) → MayLead shape t s found.body found.gates chain reach (later_tree (state_of found)) (map found_of new)
+        → IsGroupBegun shape t u s (later_tree (state_of found)) (map found_of new)) where
       claim_leaves : (s : State) → IsTrue t.told → AtRest t → StandsFor shape (reads t) s → LeavesEither shape s (claimed_state shape s) t u
       claim_leaves s told rests stands =
           subst (λ (next : State). LeavesEither shape s next t u) (after_is s (found_is s told rests stands)) (any s (may_lead s told rests stands))
 
+      -- a front of its calls was made
+      claim_writes : IsTrue t.told → AtRest t → WritesClaim shape t u
+      claim_writes told rests =
+          let s : State = state_of found in
+          let stands = (on.there (whole_at_rest t told rests)).stands in
+          let here : IsGroupBegun shape t u s (later_tree s) (map found_of new) = begun s (may_lead s told rests stands) in
+          inr (s, stands, subst (λ (n : List PlacedBlock). IsGroupBegun shape t u s (later_tree s) (map found_of n)) new_is here)
+
       -- what is answered where the group was not committed
-      pub claim_failed : (fault : ImportFault) → IsNoAnswer fault → IsImport shape t u (Err fault)
-      claim_failed fault silent = record {
+      pub claim_failed : (fault : ImportFault) → IsNoAnswer fault → (fault ≡ DiskFault → IsTrue t.told → StopsAtFailure t u) → IsImport shape t u (Err fault)
+      claim_failed fault silent stops = record {
         any_moment = claim_leaves;
         made = tt;
         stood = tt;
         only = λ s whole stands fresh. silent;
         damaged = λ whole. unjudged fault silent;
+        sized = λ is. undamaged fault silent is;
         none = λ is. absurd (subst IsNoAnswer is silent);
+        writes = claim_writes;
+        stops = stops;
       } where
+        undamaged : (other : ImportFault) → IsNoAnswer other → IsDamage other → AreLimits shape.devices shape.places
+        undamaged NoMemory other_silent is = absurd is
+        undamaged NoPool other_silent is = absurd is
+        undamaged DiskFault other_silent is = absurd is
+        undamaged (Damaged damage) other_silent is = absurd other_silent
+
         unjudged : (other : ImportFault) → IsNoAnswer other → IsDamageOf shape (reads t) other
         unjudged NoMemory other_silent = tt
         unjudged NoPool other_silent = tt
@@ -238,7 +271,10 @@ module _ (shape : Shape) (t : Tape) (found : Found) (on : IsFoundOn shape t foun
         stood = λ told rests. (state_of found, (on.there (whole_at_rest t told rests)).stands);
         only = λ s whole stands fresh. tt;
         damaged = tt;
+        sized = tt;
         none = tt;
+        writes = claim_writes;
+        stops = tt;
       } where
         taken : (s : State) → IsTrue t.told → AtRest t → StandsFor shape (reads t) s → IsTakenUp shape u s imported
         taken s told rests stands =

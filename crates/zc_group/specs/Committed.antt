@@ -1,12 +1,13 @@
 -- What a group leads to that is committed, and what it leaves wherever it is cut short.
-use Rattle.std.specs.Prelude.{◌≡◌, ◌⊎◌, ◌+◌, ◌^◌, ◌<◌, ◌≤◌, Bool, true, List, [], ◌∷◌, ◌++◌, length, map, None, IsTrue}
+use Rattle.std.specs.Prelude.{◌≡◌, ◌⊎◌, ◌↔◌, ◌+◌, ◌^◌, ◌<◌, ◌≤◌, Bool, true, List, [], ◌∷◌, ◌++◌, length, map, None, IsTrue}
 use Rattle.std.specs.List.{AllByRecursion}
 use Rattle.zc_num.specs.declared.numbers.PlaceAt.{PlaceAt}
 use Rattle.zc_blkptr.specs.declared.ptr.Ptr.{Ptr}
-use Rattle.zc_tape.specs.Tape.{Shape, Tape}
+use Rattle.zc_tape.specs.Tape.{Shape, Call, Tape}
 use Rattle.zc_tape.specs.Crash.{May, EachCrash, AtRest, reads}
+use Rattle.zc_tape.specs.Plays.{Begun}
 use Rattle.zc_root.specs.declared.body.Body.{Body}
-use Rattle.zc_root.specs.Root.{AreGates}
+use Rattle.zc_root.specs.Root.{slot_of, IsOpenGate, AreGates}
 use Rattle.zc_tree.specs.Reach.{pointers_of_tree}
 use Rattle.zc_tree.specs.Catalogue.{AreDatasets}
 use Rattle.zc_tree.specs.declared.tree.Tree.{Tree}
@@ -18,8 +19,8 @@ use Rattle.zc_plan.specs.declared.input.PlacedBlock.{PlacedBlock}
 use Rattle.zc_damage.specs.declared.block.FoundBlock.{FoundBlock}
 use Rattle.zc_damage.specs.Places.{bytes_in}
 use Rattle.zc_damage.specs.Checks.{log_hit, tail_hit}
-use Rattle.zc_state.specs.State.{State, StandsFor, place_of}
-use Rattle.zc_next.specs.Next.{next_state, AreNewBlocks, IsKept, IsWritten}
+use Rattle.zc_state.specs.State.{State, StandsFor, place_of_block}
+use Rattle.zc_next.specs.Next.{next_state, next_puts, AreNewBlocks, IsKept, IsWritten}
 use Rattle.zc_group.specs.Chosen.{chain_for}
 use Rattle.zc_group.specs.Kept.{Keeps}
 use Rattle.zc_group.specs.declared.root.Root.{Root}
@@ -30,12 +31,23 @@ found_of block = record { device = block.device; place = block.place; bytes = bl
 
 -- the places that a group's catalogue may not take: those of the old catalogue and of the new blocks
 abbrev pub taken_by : List PlaceAt → List FoundBlock → List PlaceAt
-taken_by chain new = chain ++ map place_of new
+taken_by chain new = chain ++ map place_of_block new
 
 -- the state after the group with this tree and these new blocks
 abbrev pub state_after : Shape → State → Tree → List FoundBlock → State
 state_after shape s tree new =
     next_state shape s (chain_for shape (taken_by s.chain new) (pointers_of_tree s.parts.tree) tree) tree new
+
+-- the calls of that group, where the flag says whether the gate of its slot is open
+abbrev pub calls_after : Shape → State → Tree → List FoundBlock → (gate_open : Bool) → List Call
+calls_after shape s tree new gate_open =
+    group_calls (next_puts shape (chain_for shape (taken_by s.chain new) (pointers_of_tree s.parts.tree) tree) tree new) (state_after shape s tree new).body gate_open
+
+-- a front of these calls was made, in order, of which only the last may have failed
+pub record IsGroupBegun (shape : Shape) (t u : Tape) (s : State) (tree : Tree) (new : List FoundBlock) : Type 0 where
+  pub gate_open : Bool
+  pub gate : IsTrue gate_open ↔ IsOpenGate (reads t) (slot_of tree.group)
+  pub begun : Begun t (calls_after shape s tree new gate_open) u
 
 -- A group may lead from the state to one with this tree and these new blocks, over whichever places its catalogue has: what
 -- `IsNext` asks besides of those places follows from how they are chosen. That the tree has no more places than a pool has for data

@@ -1,5 +1,5 @@
 -- What a creation makes, and what it leaves wherever it is cut short.
-use Rattle.std.specs.Prelude.{◌≡◌, ◌⊎◌, ◌*◌, ℕ, Bool, false, List, [], length, slice_index_or, Result, Ok, Err, IsTrue}
+use Rattle.std.specs.Prelude.{◌≡◌, ◌⊎◌, ◌*◌, ℕ, Bool, true, false, List, [], length, slice_index_or, Result, Ok, Err, IsTrue}
 use Rattle.sha2.specs.Sha256.{sha256}
 use Rattle.zc_num.specs.Limits.{log_places_of}
 use Rattle.zc_num.specs.declared.numbers.PlaceAt.{PlaceAt}
@@ -7,7 +7,8 @@ use Rattle.zc_wire.specs.Numbers.{u64_of}
 use Rattle.zc_tape.specs.Tape.{Shape, Call, Tape}
 use Rattle.zc_tape.specs.DiskCall.{AreThere}
 use Rattle.zc_tape.specs.Crash.{May, EachCrash, AtRest, reads}
-use Rattle.zc_root.specs.Root.{IsOpenGate, slot_of}
+use Rattle.zc_tape.specs.Plays.{Plays, Begun}
+use Rattle.zc_root.specs.Root.{IsOpenGate, slot_of, AreGates}
 use Rattle.zc_tree.specs.declared.tree.Tree.{Tree}
 use Rattle.zc_catalog.specs.Chain.{chain_length, links}
 use Rattle.zc_layout.specs.Layout.{Put, at_places}
@@ -61,11 +62,32 @@ pub record IsFirst (shape : Shape) (name : List ℕ) (u : Tape) : Type 0 where
 abbrev pub first_puts : Shape → List Put
 first_puts shape = at_places (first_chain shape) (links (first_chain shape) (next_bytes shape (first_chain shape) first_tree))
 
+-- the calls of the creation of a pool of this name, where the flags say which gates are open
+abbrev pub first_calls : Shape → (name : List ℕ) → (gates : List Bool) → List Call
+first_calls shape name gates =
+    creation_calls (slice_index_or gates 0 false) (slice_index_or gates 1 false) (all_log_places shape) (first_puts shape) (first_state shape name).body
+
+-- a front of them was made, in order, of which only the last may have failed
+pub record IsCreationBegun (shape : Shape) (name : List ℕ) (t u : Tape) : Type 0 where
+  pub gates : List Bool
+  pub gates_are : AreGates (reads t) gates
+  pub begun : Begun t (first_calls shape name gates) u
+
+-- all of them were made, in order, each once, and each was Ok
+pub record IsCreationWhole (shape : Shape) (name : List ℕ) (t u : Tape) : Type 0 where
+  pub gates : List Bool
+  pub gates_are : AreGates (reads t) gates
+  pub made : Plays t (first_calls shape name gates) u true
+
+-- nothing was written, or a front of the calls of the creation
+abbrev pub WritesCreation : Shape → (name : List ℕ) → (t u : Tape) → Type 0
+WritesCreation shape name t u = (u ≡ t) ⊎ IsCreationBegun shape name t u
+
 -- the calls are those of the creation of a pool of this name, where the flags say which gates are open; there are as many free
 -- places as its catalogue takes, and the disk set has each place that is written
 pub record IsPlanned (shape : Shape) (name : List ℕ) (gates : List Bool) (calls : List Call) : Type 0 where
   pub long_enough : length (first_chain shape) ≡ chain_length (length (next_bytes shape (first_chain shape) first_tree))
-  pub calls_are : calls ≡ creation_calls (slice_index_or gates 0 false) (slice_index_or gates 1 false) (all_log_places shape) (first_puts shape) (first_state shape name).body
+  pub calls_are : calls ≡ first_calls shape name gates
   pub there : AreThere shape calls
 
 -- the disk set that is given back, with the answer or with the fault

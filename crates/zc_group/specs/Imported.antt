@@ -1,5 +1,5 @@
 -- What an import takes up, and what it answers.
-use Rattle.std.specs.Prelude.{◌≡◌, ◌+◌, ◌^◌, ◌≤◌, ◌==◌, ◌&&◌, true, List, [], length, None, Result, Ok, Err, IfOk, IfErr, IsTrue}
+use Rattle.std.specs.Prelude.{◌≡◌, ◌⊎◌, ◌+◌, ◌^◌, ◌≤◌, ◌==◌, ◌&&◌, true, List, [], length, drop, None, Result, Ok, Err, IfOk, IfErr, IsTrue}
 use Rattle.std.specs.List.{AllByRecursion, Contains, list_any}
 use Rattle.zc_num.specs.Limits.{AreLimits}
 use Rattle.zc_num.specs.declared.limits.Limits.{Limits}
@@ -20,13 +20,14 @@ use Rattle.zc_damage.specs.Checks.{worn_hit, log_hit, tail_hit}
 use Rattle.zc_state.specs.State.{State, StandsFor, IsFresh}
 use Rattle.zc_state.specs.Reading.{read_state}
 use Rattle.zc_next.specs.Next.{later_tree}
-use Rattle.zc_image.specs.Answers.{IsWhole}
+use Rattle.zc_image.specs.ReadAnswers.{IsWhole}
 use Rattle.zc_image.specs.Checked.{IsChecked}
 use Rattle.zc_image.specs.Found.{state_of}
 use Rattle.zc_image.specs.declared.found.Found.{Found}
 use Rattle.zc_image.specs.declared.fault.ImageFault.{ImageFault}
 use Rattle.zc_image.specs.declared.fault.ImageFault.TheVariants.{NoMemory as ReadNoMemory, NoPool as ReadNoPool, DiskFault as ReadFault, Damaged as ReadDamaged}
-use Rattle.zc_group.specs.Committed.{state_after, LeavesEither, IsCommitted}
+use Rattle.zc_plan.specs.Counted.{AllButLast}
+use Rattle.zc_group.specs.Committed.{state_after, LeavesEither, IsCommitted, IsGroupBegun}
 use Rattle.zc_group.specs.declared.import.Imported.{Imported}
 use Rattle.zc_group.specs.declared.import.ImportFault.{ImportFault}
 use Rattle.zc_group.specs.declared.import.ImportFault.TheVariants.{NoMemory, NoPool, DiskFault, Damaged}
@@ -44,7 +45,7 @@ pub record IsTakenUp (shape : Shape) (u : Tape) (s : State) (imported : Imported
   pub committed : IsCommitted shape u (claimed_state shape s) imported.root
 
 -- The tree of a pool that was taken up fits the size, and its numbers are low; no dataset has a claimed log. Two pointers to one
--- place are of one block. There is a block at the place of each pointer, and behind the size of a file the blocks have zeros.
+-- place are of one block. There is a block at the place of each pointer, and after the size of a file the blocks have zeros.
 pub record IsTaken (limits : Limits) (tree : Tree) (blocks : List FoundBlock) : Type 0 where
   pub few_datasets : length tree.datasets ≤ 8
   pub datasets : AreDatasets limits.devices limits.places tree.group tree.next_dataset [] tree.datasets
@@ -80,12 +81,29 @@ IsBeforeWrites NoPool = Unit {0}
 IsBeforeWrites DiskFault = ⊥
 IsBeforeWrites (Damaged damage) = Unit {0}
 
--- a damage is the one that is read behind the root of the image; the other faults are told apart
+-- a damage is the one that is read after the root of the image; the other faults are told apart
 abbrev pub IsDamageOf : Shape → Image → ImportFault → Type 0
 IsDamageOf shape image NoMemory = Unit {0}
 IsDamageOf shape image NoPool = Unit {0}
 IsDamageOf shape image DiskFault = Unit {0}
 IsDamageOf shape image (Damaged damage) = (body : Body) × (IsRoot image body × (read_state shape image body ≡ Err damage))
+
+-- the fault tells a damage
+abbrev pub IsDamage : ImportFault → Type 0
+IsDamage NoMemory = ⊥
+IsDamage NoPool = ⊥
+IsDamage DiskFault = ⊥
+IsDamage (Damaged damage) = Unit {0}
+
+-- ---- calls
+
+-- nothing was written; or a pool stood there, and what was written is a front of the calls of its claim group
+abbrev pub WritesClaim : Shape → (t u : Tape) → Type 0
+WritesClaim shape t u = (u ≡ t) ⊎ ((s : State) × StandsFor shape (reads t) s × IsGroupBegun shape t u s (later_tree s) [])
+
+-- nothing was written; or of the calls that were made the last failed, and none before it
+abbrev pub StopsAtFailure : (t u : Tape) → Type 0
+StopsAtFailure t u = (u ≡ t) ⊎ AllButLast (drop (length t.calls) u.calls)
 
 -- ---- on the way
 
@@ -96,7 +114,7 @@ fault_of ReadNoPool = NoPool
 fault_of ReadFault = DiskFault
 fault_of (ReadDamaged damage) = Damaged damage
 
--- what was found stands in the image, behind its root
+-- what was found stands in the image, after its root
 pub record IsFoundIn (shape : Shape) (image : Image) (found : Found) : Type 0 where
   pub root : IsRoot image found.body
   pub gates_are : AreGates image found.gates
@@ -120,4 +138,7 @@ pub record IsImport (shape : Shape) (t u : Tape) (result : Result Imported Impor
   pub stood : IfOk result (λ imported. IsTrue t.told → AtRest t → (s : State) × StandsFor shape (reads t) s)
   pub only : (s : State) → IsWhole t → StandsFor shape (reads t) s → IsFresh s → IfErr result IsNoAnswer
   pub damaged : IfErr result (λ fault. IsWhole t → IsDamageOf shape (reads t) fault)
+  pub sized : IfErr result (λ fault. IsDamage fault → AreLimits shape.devices shape.places)
   pub none : IfErr result (λ fault. fault ≡ NoPool → IsWhole t → AreLimits shape.devices shape.places → HasNoRoot (reads t))
+  pub writes : IsTrue t.told → AtRest t → WritesClaim shape t u
+  pub stops : IfErr result (λ fault. fault ≡ DiskFault → IsTrue t.told → StopsAtFailure t u)

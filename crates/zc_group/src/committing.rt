@@ -1,20 +1,22 @@
 // How a group is committed.
 ghost use Rattle.std.specs.Prelude.{◌≡◌, ◌+◌, ◌≤◌, [], ◌++◌, length, map, drop, slice_index_or, false, None, IfOk, IfErr, OnOk, OnErr, IsErrOf, IsTrue};
 ghost use Rattle.zc_tape.specs.Cause.{Rose};
+ghost use Rattle.zc_tape.specs.Plays.{Begun};
 ghost use Rattle.zc_tape.proofs.Extends.{Extends};
 ghost use Rattle.zc_root.specs.Root.{slot_of};
+ghost use Rattle.zc_layout.specs.Standing.{group_calls};
 ghost use Rattle.zc_tree.specs.Catalogue.{AreDatasets};
 ghost use Rattle.zc_tree.specs.Reach.{pointers_of_tree};
 ghost use Rattle.zc_plan.specs.Counted.{AllMade, AllButLast};
 ghost use Rattle.zc_plan.specs.Puts.{puts_of, HasRoom};
 ghost use Rattle.zc_damage.specs.Checks.{charge_hit};
 ghost use Rattle.zc_damage.specs.Places.{ReachPlaces, ChainPlaces};
-ghost use Rattle.zc_state.specs.State.{State, place_of};
+ghost use Rattle.zc_state.specs.State.{State, place_of_block};
 ghost use Rattle.zc_group.specs.Chosen.{chain_for};
 ghost use Rattle.zc_group.specs.Counted.{IsFailed, made_before};
 ghost use Rattle.zc_group.specs.Kept.{HasSize, HasPlaces};
 ghost use Rattle.zc_group.specs.Spelled.{Spells};
-ghost use Rattle.zc_group.specs.Committed.{found_of, taken_by, state_after, MayCommit, MayLead, LeavesEither, IsCommitted, IsLed, LeavesGroup, MakesGroup};
+ghost use Rattle.zc_group.specs.Committed.{found_of, taken_by, state_after, MayCommit, MayLead, LeavesEither, IsCommitted, IsLed, IsGroupBegun, LeavesGroup, MakesGroup};
 
 use crate::Root;
 use crate::catalogue::{Written, write_catalogue};
@@ -68,7 +70,7 @@ pub fn commit<D: DiskSet>(
     requires places { HasPlaces root.old }
     requires few { length tree.datasets ≤ 8 }
     requires datasets { AreDatasets root.old.limits.devices root.old.limits.places tree.group tree.next_dataset [] tree.datasets }
-    requires there { ChainPlaces root.old.limits.devices root.old.limits.places (map place_of (map found_of new)) }
+    requires there { ChainPlaces root.old.limits.devices root.old.limits.places (map place_of_block (map found_of new)) }
     ensures shape { D.shape disks.new ≡ D.shape disks.old }
     ensures told { (D.tape disks.new).told ≡ (D.tape disks.old).told }
     ensures extends { IsTrue (D.tape disks.old).told → Extends (D.tape disks.old) (D.tape disks.new) }
@@ -129,7 +131,7 @@ fn lead_from<D: DiskSet>(
     requires places { HasPlaces root.now }
     requires few { length tree.now.datasets ≤ 8 }
     requires datasets { AreDatasets root.now.limits.devices root.now.limits.places tree.now.group tree.now.next_dataset [] tree.now.datasets }
-    requires there { ChainPlaces root.now.limits.devices root.now.limits.places (map place_of (map found_of new)) }
+    requires there { ChainPlaces root.now.limits.devices root.now.limits.places (map place_of_block (map found_of new)) }
     ensures shape { D.shape disks.new ≡ D.shape disks.old }
     ensures told { (D.tape disks.new).told ≡ (D.tape disks.old).told }
     ensures extends { IsTrue (D.tape disks.old).told → Extends (D.tape disks.old) (D.tape disks.new) }
@@ -193,7 +195,7 @@ pub(crate) fn lead<D: DiskSet>(
     requires reach_there { ReachPlaces limits.now.devices limits.now.places reach.now }
     requires few { length tree.now.datasets ≤ 8 }
     requires datasets { AreDatasets limits.now.devices limits.now.places tree.now.group tree.now.next_dataset [] tree.now.datasets }
-    requires there { ChainPlaces limits.now.devices limits.now.places (map place_of (map found_of new)) }
+    requires there { ChainPlaces limits.now.devices limits.now.places (map place_of_block (map found_of new)) }
     ensures shape { D.shape disks.new ≡ D.shape disks.old }
     ensures told { (D.tape disks.new).told ≡ (D.tape disks.old).told }
     ensures extends { IsTrue (D.tape disks.old).told → Extends (D.tape disks.old) (D.tape disks.new) }
@@ -201,6 +203,8 @@ pub(crate) fn lead<D: DiskSet>(
         → LeavesEither (D.shape disks.old) s (state_after (D.shape disks.old) s tree.now (map found_of new)) (D.tape disks.old) (D.tape disks.new) }
     ensures made { IfOk result (λ next. (s : State) → MayLead (D.shape disks.old) (D.tape disks.old) s body.now gates chain.now reach.now tree.now (map found_of new)
         → IsLed (D.shape disks.old) (D.tape disks.new) (state_after (D.shape disks.old) s tree.now (map found_of new)) next.body next.chain) }
+    ensures begun { (s : State) → MayLead (D.shape disks.old) (D.tape disks.old) s body.now gates chain.now reach.now tree.now (map found_of new)
+        → IsGroupBegun (D.shape disks.old) (D.tape disks.old) (D.tape disks.new) s tree.now (map found_of new) }
     ensures group { IfOk result (λ next. next.body.group ≡ tree.now.group) }
     ensures pool { IfOk result (λ next. next.body.pool ≡ body.now.pool) }
     ensures charge { OnOk result (charge_hit limits.now.devices limits.now.places tree.now.group (pointers_of_tree tree.now) ≡ None) }
@@ -250,7 +254,7 @@ fn next_of(
     requires reach_there { ReachPlaces limits.now.devices limits.now.places reach.now }
     requires few { length tree.now.datasets ≤ 8 }
     requires datasets { AreDatasets limits.now.devices limits.now.places tree.now.group tree.now.next_dataset [] tree.now.datasets }
-    requires there { ChainPlaces limits.now.devices limits.now.places (map place_of (map found_of new.now)) }
+    requires there { ChainPlaces limits.now.devices limits.now.places (map place_of_block (map found_of new.now)) }
     ensures spells { IfOk result (λ written. Spells (record { devices = limits.now.devices; places = limits.now.places }) pool
         (chain_for (record { devices = limits.now.devices; places = limits.now.places }) (taken_by chain.now (map found_of new.now)) reach.now tree.now) tree.now written) }
     ensures charge { OnOk result (charge_hit limits.now.devices limits.now.places tree.now.group (pointers_of_tree tree.now) ≡ None) }
@@ -260,7 +264,7 @@ fn next_of(
     write_catalogue(alloc, limits, pool, tree, &census)
 }
 
-// The places of a catalogue, and of blocks behind them.
+// The places of a catalogue, and of blocks after them.
 fn taken_by(alloc: Global, chain: &[PlaceAt], new: &[PlacedBlock]) -> Result<Vec<PlaceAt>, NoMemory>
     ensures { IfOk result (λ taken. taken.items ≡ taken_by chain.now (map found_of new.now)) }
 {
@@ -291,6 +295,8 @@ fn write_led<D: DiskSet>(
     ensures extends { IsTrue (D.tape disks.old).told → Extends (D.tape disks.old) (D.tape disks.new) }
     ensures any_moment { LeavesGroup (puts_of new ++ puts_of written.blocks) written.body gate_open (D.tape disks.old) (D.tape disks.new) }
     ensures made { OnOk result (MakesGroup (puts_of new ++ puts_of written.blocks) written.body gate_open (D.tape disks.old) (D.tape disks.new)) }
+    ensures begun { IsTrue (D.tape disks.old).told
+        → Begun (D.tape disks.old) (group_calls (puts_of new ++ puts_of written.blocks) written.body gate_open) (D.tape disks.new) }
     ensures body { IfOk result (λ next. next.body ≡ written.body) }
     ensures chain { IfOk result (λ next. next.chain ≡ written.chain) }
     ensures memory { IsErrOf result CommitFault.NoMemory → D.tape disks.new ≡ D.tape disks.old }
@@ -318,7 +324,7 @@ fn write_led<D: DiskSet>(
 }
 
 // Plans and makes the calls of a group with this body, these blocks, and these of its catalogue.
-#[tactic(auto, using(crate::proofs::CommitLaws::leaves_unbegun, crate::proofs::CommitLaws::leaves_planned, crate::proofs::CommitLaws::makes_planned, crate::proofs::TapeLaws::extends_same, crate::proofs::TapeLaws::extends_planned))]
+#[tactic(auto, using(crate::proofs::CommitLaws::leaves_unbegun, crate::proofs::CommitLaws::leaves_planned, crate::proofs::CommitLaws::makes_planned, crate::proofs::TapeLaws::begun_same, crate::proofs::TapeLaws::begun_planned, crate::proofs::TapeLaws::extends_same, crate::proofs::TapeLaws::extends_planned))]
 fn write_next<D: DiskSet>(
     alloc: Global,
     disks: &mut D,
@@ -333,6 +339,8 @@ fn write_next<D: DiskSet>(
     ensures extends { IsTrue (D.tape disks.old).told → Extends (D.tape disks.old) (D.tape disks.new) }
     ensures any_moment { LeavesGroup (puts_of blocks ++ puts_of chain) body gate_open (D.tape disks.old) (D.tape disks.new) }
     ensures made { OnOk result (MakesGroup (puts_of blocks ++ puts_of chain) body gate_open (D.tape disks.old) (D.tape disks.new)) }
+    ensures begun { IsTrue (D.tape disks.old).told
+        → Begun (D.tape disks.old) (group_calls (puts_of blocks ++ puts_of chain) body gate_open) (D.tape disks.new) }
     ensures memory { IsErrOf result CommitFault.NoMemory → D.tape disks.new ≡ D.tape disks.old }
     ensures no_fault { IsErrOf result CommitFault.NoMemory → D.faults disks.new ≡ D.faults disks.old }
     ensures later { D.faults disks.old ≤ D.faults disks.new }

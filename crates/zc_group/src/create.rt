@@ -7,7 +7,8 @@ ghost use Rattle.zc_tape.specs.Crash.{reads};
 ghost use Rattle.zc_tape.specs.DiskCall.{call_of};
 ghost use Rattle.zc_root.specs.Root.{IsOpenRoot, AreGates, HasWholeRoots};
 ghost use Rattle.zc_root.specs.declared.body.Body.{Body as BodyOf};
-ghost use Rattle.zc_group.specs.Created.{first_tree, pool_number, first_chain, HoldsNothing, LeavesFirst, IsFirst, IsPlanned, given_back, FailsBy};
+ghost use Rattle.zc_group.specs.Created.{first_tree, pool_number, first_chain, HoldsNothing, LeavesFirst, IsFirst, IsPlanned, IsCreationWhole, WritesCreation, given_back, FailsBy};
+ghost use Rattle.zc_group.specs.Imported.{StopsAtFailure};
 ghost use Rattle.zc_group.specs.Spelled.{Spells};
 
 use crate::catalogue::{Written, whole_digest, write_catalogue};
@@ -60,6 +61,11 @@ pub fn create_pool<D: DiskSet>(alloc: Global, disks: D, name: &Name) -> Result<D
     ensures memory { FailsBy result CreateFault.NoMemory → D.tape (given_back result) ≡ D.tape disks }
     ensures later { D.faults disks ≤ D.faults (given_back result) }
     ensures cause { FailsBy result CreateFault.Failed → Rose (D.faults disks) (D.faults (given_back result)) }
+
+    // All of its calls were made, in order and each once; or a front of them, where it isn't Ok, and only the last of them failed.
+    ensures written { OnOk result (HoldsNothing (D.tape disks) → IsCreationWhole (D.shape disks) name.now (D.tape disks) (D.tape (given_back result))) }
+    ensures begun { HoldsNothing (D.tape disks) → WritesCreation (D.shape disks) name.now (D.tape disks) (D.tape (given_back result)) }
+    ensures stops { FailsBy result CreateFault.Failed → IsTrue (D.tape disks).told → StopsAtFailure (D.tape disks) (D.tape (given_back result)) }
 {
     let mut disks = disks;
     match make_pool(alloc, &mut disks, name) {
@@ -85,6 +91,9 @@ fn make_pool<D: DiskSet>(alloc: Global, disks: &mut D, name: &Name) -> Result<()
     ensures memory { IsErrOf result CreateFault.NoMemory → D.tape disks.new ≡ D.tape disks.old }
     ensures later { D.faults disks.old ≤ D.faults disks.new }
     ensures cause { IsErrOf result CreateFault.Failed → Rose (D.faults disks.old) (D.faults disks.new) }
+    ensures written { OnOk result (HoldsNothing (D.tape disks.old) → IsCreationWhole (D.shape disks.old) name.now (D.tape disks.old) (D.tape disks.new)) }
+    ensures begun { HoldsNothing (D.tape disks.old) → WritesCreation (D.shape disks.old) name.now (D.tape disks.old) (D.tape disks.new) }
+    ensures stops { IsErrOf result CreateFault.Failed → IsTrue (D.tape disks.old).told → StopsAtFailure (D.tape disks.old) (D.tape disks.new) }
 {
     match read_slots(disks) {
         Ok(_) => Err(CreateFault::PoolExists),
@@ -94,7 +103,7 @@ fn make_pool<D: DiskSet>(alloc: Global, disks: &mut D, name: &Name) -> Result<()
 }
 
 // Makes the pool where there is no root.
-#[tactic(auto, using(crate::proofs::CreateLaws::leaves_over_gates, crate::proofs::CreateLaws::made_over_gates, crate::proofs::TapeLaws::extends_same, crate::proofs::TapeLaws::extends_behind))]
+#[tactic(auto, using(crate::proofs::CreateLaws::leaves_over_gates, crate::proofs::CreateLaws::made_over_gates, crate::proofs::CreateLaws::whole_over_gates, crate::proofs::CreateLaws::begun_over_gates, crate::proofs::CreateLaws::stops_over_gates, crate::proofs::TapeLaws::extends_same, crate::proofs::TapeLaws::extends_after))]
 fn make_over<D: DiskSet>(alloc: Global, disks: &mut D, name: &Name) -> Result<(), CreateFault>
     requires limits { AreLimits (D.shape disks.old).devices (D.shape disks.old).places }
     ensures shape { D.shape disks.new ≡ D.shape disks.old }
@@ -106,6 +115,9 @@ fn make_over<D: DiskSet>(alloc: Global, disks: &mut D, name: &Name) -> Result<()
     ensures memory { IsErrOf result CreateFault.NoMemory → D.tape disks.new ≡ D.tape disks.old }
     ensures later { D.faults disks.old ≤ D.faults disks.new }
     ensures cause { IsErrOf result CreateFault.Failed → Rose (D.faults disks.old) (D.faults disks.new) }
+    ensures written { OnOk result (HoldsNothing (D.tape disks.old) → IsCreationWhole (D.shape disks.old) name.now (D.tape disks.old) (D.tape disks.new)) }
+    ensures begun { HoldsNothing (D.tape disks.old) → WritesCreation (D.shape disks.old) name.now (D.tape disks.old) (D.tape disks.new) }
+    ensures stops { IsErrOf result CreateFault.Failed → IsTrue (D.tape disks.old).told → StopsAtFailure (D.tape disks.old) (D.tape disks.new) }
 {
     match read_gates(disks) {
         Ok(gates) => write_first(alloc, disks, name, gates),
@@ -133,6 +145,11 @@ fn write_first<D: DiskSet>(
     ensures memory { IsErrOf result CreateFault.NoMemory → D.tape disks.new ≡ D.tape disks.old }
     ensures later { D.faults disks.old ≤ D.faults disks.new }
     ensures cause { IsErrOf result CreateFault.Failed → Rose (D.faults disks.old) (D.faults disks.new) }
+    ensures written { OnOk result (HoldsNothing (D.tape disks.old) → AreGates (reads (D.tape disks.old)) gates
+        → IsCreationWhole (D.shape disks.old) name.now (D.tape disks.old) (D.tape disks.new)) }
+    ensures begun { HoldsNothing (D.tape disks.old) → AreGates (reads (D.tape disks.old)) gates
+        → WritesCreation (D.shape disks.old) name.now (D.tape disks.old) (D.tape disks.new) }
+    ensures stops { IsErrOf result CreateFault.Failed → IsTrue (D.tape disks.old).told → StopsAtFailure (D.tape disks.old) (D.tape disks.new) }
 {
     match creation_on(alloc, disks, name, gates) {
         Ok(plan) => match write_creation(disks, &plan) {

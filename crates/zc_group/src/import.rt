@@ -8,10 +8,10 @@ ghost use Rattle.zc_tree.specs.Reach.{pointers_of_tree};
 ghost use Rattle.zc_layout.specs.Standing.{HasNoRoot};
 ghost use Rattle.zc_plan.specs.Counted.{AllMade};
 ghost use Rattle.zc_state.specs.State.{State, StandsFor, IsFresh};
-ghost use Rattle.zc_image.specs.Answers.{IsWhole};
+ghost use Rattle.zc_image.specs.ReadAnswers.{IsWhole};
 ghost use Rattle.zc_group.specs.Kept.{HasSize, HasPlaces};
 ghost use Rattle.zc_group.specs.Committed.{LeavesEither};
-ghost use Rattle.zc_group.specs.Imported.{claimed_state, taken_back, fault_of, IsTakenUp, IsNoAnswer, IsBeforeWrites, IsDamageOf, IsFoundOn, IsImport, IsTaken};
+ghost use Rattle.zc_group.specs.Imported.{claimed_state, taken_back, fault_of, IsTakenUp, IsNoAnswer, IsBeforeWrites, IsDamageOf, IsDamage, WritesClaim, StopsAtFailure, IsFoundOn, IsImport, IsTaken};
 
 use crate::Root;
 use crate::committing::{CommitFault, NextRoot, lead};
@@ -81,9 +81,15 @@ pub fn import_pool<D: DiskSet>(alloc: Global, disks: D) -> Result<(D, Imported),
     ensures damaged { IfErr result (λ refused. IsWhole (D.tape disks) → IsDamageOf (D.shape disks) (reads (D.tape disks)) refused.0) }
     ensures none { IfErr result (λ refused. refused.0 ≡ ImportFault.NoPool → IsWhole (D.tape disks)
         → AreLimits (D.shape disks).devices (D.shape disks).places → HasNoRoot (reads (D.tape disks))) }
+    ensures sized { IfErr result (λ refused. IsDamage refused.0 → AreLimits (D.shape disks).devices (D.shape disks).places) }
     ensures kept { IfErr result (λ refused. IsBeforeWrites refused.0 → D.tape refused.1 ≡ D.tape disks) }
     ensures later { D.faults disks ≤ D.faults (taken_back result) }
     ensures cause { IfErr result (λ refused. refused.0 ≡ ImportFault.DiskFault → Rose (D.faults disks) (D.faults refused.1)) }
+
+    // What was written is a front of the calls of one claim group; where a call failed, it is the last of them.
+    ensures writes { IsTrue (D.tape disks).told → AtRest (D.tape disks) → WritesClaim (D.shape disks) (D.tape disks) (D.tape (taken_back result)) }
+    ensures stops { IfErr result (λ refused. refused.0 ≡ ImportFault.DiskFault → IsTrue (D.tape disks).told
+        → StopsAtFailure (D.tape disks) (D.tape refused.1)) }
 
     // So many calls were made, and all of them were Ok.
     ensures counted { IfOk result (λ taken. IsTrue (D.tape disks).told

@@ -16,10 +16,6 @@ mod import;
 mod look;
 mod measuring;
 mod root;
-#[cfg(test)]
-mod tests;
-#[cfg(test)]
-mod tests_commit;
 
 pub use choosing::free_places;
 pub use committing::{CommitFault, commit};

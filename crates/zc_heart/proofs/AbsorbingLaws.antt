@@ -6,7 +6,7 @@ use Rattle.std.proofs.lemmas.List.Sums.{sum_by-cons}
 use Rattle.zc_blkptr.specs.declared.ptr.Ptr.{Ptr}
 use Rattle.zc_plain.specs.declared.tally.MadeBlock.{MadeBlock}
 use Rattle.zc_plain.specs.declared.tally.Tally.{Tally}
-use Rattle.zc_plain.specs.Charge.{is_behind, seals_up_to, with_finish}
+use Rattle.zc_plain.specs.Charge.{is_after, seals_up_to, with_finish}
 use Rattle.zc_heart.specs.declared.changes.GroupDone.{GroupDone}
 use Rattle.zc_heart.specs.declared.stamps.Stamp.{Stamp}
 use Rattle.zc_heart.specs.declared.stamps.Stamps.{Stamps}
@@ -24,7 +24,7 @@ use Rattle.zc_heart.specs.Stamps.{files_at, Learns, ptr_at, pair_of, AreKnown, S
 use Rattle.zc_heart.specs.Core.{pool_of, made_waiting, AreMade, Agrees, Base, Leads, IsCore}
 use Rattle.zc_heart.specs.Meaning.{placed_at, MayAbsorb, Absorbs}
 use Rattle.zc_heart.specs.Noted.{AreWhere, first_stamps}
-use Rattle.zc_heart.proofs.TallyLaws.{made_of, group_of, seals_are, made_behind_first, whole_behind_first, any_behind, all_kept}
+use Rattle.zc_heart.proofs.TallyLaws.{made_of, group_of, seals_are, made_after_first, whole_after_first, any_after, all_kept}
 
 -- ---- where blocks are
 
@@ -87,19 +87,19 @@ agrees_finished core waits others held stamps first tally agrees =
     let whole : length tally.made ≡ sum_by made_of (waits ∷ others) + core.made = agrees.whole ∙ ap (λ (waiting : List WaitingGroup). sum_by made_of waiting + core.made) first in
     let long : length tally.sealed ≡ from + length (waits.group ∷ map group_of others) = ap length sealed ∙ length-append agrees.finished (waits.group ∷ map group_of others) in
     let some : length (waits.group ∷ map group_of others) ≡ suc (length (map group_of others)) = refl in
-    subst (λ (n : ℕ). Agrees (record { sealed = tally.sealed; held = held; made = filter (is_behind n) tally.made }) (taken_in core others held stamps)) (sym seals) (record {
+    subst (λ (n : ℕ). Agrees (record { sealed = tally.sealed; held = held; made = filter (is_after n) tally.made }) (taken_in core others held stamps)) (sym seals) (record {
       held = refl;
       finished = agrees.finished ++ waits.group ∷ [];
       sealed = sealed ∙ sym (append_assoc agrees.finished (waits.group ∷ []) (map group_of others));
       apart = agrees.apart;
       below = agrees.below;
-      made = subst (λ (n : ℕ). AreMade n others core.made (filter (is_behind (from + 1)) tally.made)) (sym longer) (made_behind_first from waits others core.made tally.made made);
-      whole = whole_behind_first from waits others core.made tally.made made whole;
+      made = subst (λ (n : ℕ). AreMade n others core.made (filter (is_after (from + 1)) tally.made)) (sym longer) (made_after_first from waits others core.made tally.made made);
+      whole = whole_after_first from waits others core.made tally.made made whole;
       marks = λ place dataset at file k stands there.
           agrees.marks place dataset at file k stands there
-          ∙ sym (any_behind (from + 1) (record { seals = length tally.sealed; dataset = dataset.id; file = file.id; block = k }) tally.made (omega (arith, long, some)));
-      no_dataset = all_kept (λ (block : MadeBlock). block.dataset < core.next_dataset) (is_behind (from + 1)) tally.made agrees.no_dataset;
-      no_file = λ place dataset stands. all_kept (λ (block : MadeBlock). (block.dataset == dataset.id) ≡ true → block.file < dataset.next_file) (is_behind (from + 1)) tally.made (agrees.no_file place dataset stands);
+          ∙ sym (any_after (from + 1) (record { seals = length tally.sealed; dataset = dataset.id; file = file.id; block = k }) tally.made (omega (arith, long, some)));
+      no_dataset = all_kept (λ (block : MadeBlock). block.dataset < core.next_dataset) (is_after (from + 1)) tally.made agrees.no_dataset;
+      no_file = λ place dataset stands. all_kept (λ (block : MadeBlock). (block.dataset == dataset.id) ≡ true → block.file < dataset.next_file) (is_after (from + 1)) tally.made (agrees.no_file place dataset stands);
     })
 
 leads_still : (core : Core) (others : List WaitingGroup) (held : ℕ) (stamps : Stamps) (base : Base) → Leads base core → Leads base (taken_in core others held stamps)

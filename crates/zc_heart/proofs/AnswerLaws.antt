@@ -26,10 +26,10 @@ use Rattle.zc_plain.specs.declared.tally.Tally.{Tally}
 use Rattle.zc_plain.specs.PlainPool.{byte_of, bytes_from, made_count, dataset_at, file_at, with_new_file, without_dataset, without_file, in_dataset, in_files, in_file}
 use Rattle.zc_plain.specs.Putting.{first_touched, touched_count}
 use Rattle.zc_plain.specs.Written.{written}
-use Rattle.zc_plain.specs.Truncated.{is_cut, truncated}
+use Rattle.zc_plain.specs.Truncated.{is_trimmed, truncated}
 use Rattle.zc_plain.specs.Charge.{blocks_made, with_blocks, charge_of}
 use Rattle.zc_plain.specs.IsPlain.{StandsAt, IsPlain}
-use Rattle.zc_plain.specs.Answer.{◌>>=◌, refuse_if, refuse_length, refuse_long, refuse_end, refuse_pointers, most_datasets, most_files, most_charge, most_read, file_place, path_of, blocks_touched, blocks_cut, blocks_on, blocks_put, blocks_of_command, holes_touched, counted, settled}
+use Rattle.zc_plain.specs.Answer.{◌>>=◌, refuse_if, refuse_length, refuse_long, refuse_end, refuse_pointers, most_datasets, most_files, most_charge, most_read, file_place, path_of, blocks_touched, blocks_trimmed, blocks_on, blocks_put, blocks_of_command, holes_touched, counted, settled}
 use Rattle.zc_plain.specs.Answer as answer
 use Rattle.zc_heart.specs.declared.file.HeartFile.{HeartFile}
 use Rattle.zc_heart.specs.declared.directory.Named.{Named}
@@ -41,7 +41,7 @@ use Rattle.zc_heart.specs.Changes.{change_by, without}
 use Rattle.zc_heart.specs.Core.{plain_file, plain_dataset, plain_blocks, pool_of, charge, made_now, is_made, Agrees, IsHeartFile, IsDatasetOfCore, IsCore}
 use Rattle.zc_heart.specs.File.{bare, unmade_in}
 use Rattle.zc_heart.specs.Meaning.{Replies, Commands, is_data}
-use Rattle.zc_heart.specs.Deeds.{place_of, dataset_of, files_in, spot_of, file_on, said_of, blocks_on as blocks_on_spot, bytes_on, size_on, made_on, unmade_on, cut_count, cut_on, pointers_at, Deed, number_of, with_file_changed, without_numbered, pool_behind, last_behind, blocks_there, blocks_by, Becomes, Does, IsLeft, Gives, mkds, rmds, mount, create, remove, room_in_file, refuse_charge, put_some, put, write, truncate, read, stat, named_answer}
+use Rattle.zc_heart.specs.Deeds.{dataset_index, dataset_of, files_in, spot_of, file_on, said_of, blocks_on as blocks_on_spot, bytes_on, size_on, made_on, unmade_on, trimmed_count, trimmed_on, pointers_at, Deed, number_of, with_file_changed, without_numbered, pool_after_command, last_later, blocks_there, blocks_by, Becomes, Does, IsLeft, Gives, mkds, rmds, mount, create, remove, room_in_file, refuse_charge, put_some, put, write, truncate, read, stat, named_answer}
 use Rattle.zc_heart.specs.Deeds as deeds
 use Rattle.zc_heart.specs.Deeds.{Nothing, AddDataset, DropDataset, AddFile, DropFile, PutBytes, SetSize}
 use Rattle.zc_heart.proofs.Listing.{holds_there, stands_in_map, FindsAt, FindsNone, finds, changed_to, changed_by_number, taken_by_number, Ascend}
@@ -53,27 +53,27 @@ use Rattle.zc_heart.proofs.OtherSteps.{nothing_more}
 
 -- the one says what the plain pool gives, and which blocks are made; the other what the heart does
 abbrev pub Same : Tally → Core → Result (Reply × PlainPool) Refusal → List MadeBlock → Result (Reply × Deed) Refusal → Type 0
-Same tally core (Ok done) blocks (Ok does) = (done.0 ≡ does.0) × (done.1 ≡ pool_behind does.1 (pool_of core)) × (blocks ≡ blocks_by tally does.1 core)
+Same tally core (Ok done) blocks (Ok does) = (done.0 ≡ does.0) × (done.1 ≡ pool_after_command does.1 (pool_of core)) × (blocks ≡ blocks_by tally does.1 core)
 Same tally core (Ok done) blocks (Err refusal) = ⊥
 Same tally core (Err refusal) blocks (Ok does) = ⊥
 Same tally core (Err refusal) blocks (Err other) = refusal ≡ other
 
--- behind one test, and behind two that are equal
-same_behind_test : (tally : Tally) (core : Core) (blocks : List MadeBlock) (test : Bool) (refusal : Refusal) (next : Result (Reply × PlainPool) Refusal) (other : Result (Reply × Deed) Refusal) → (test ≡ false → Same tally core next blocks other)
+-- after one test, and after two that are equal
+same_after_test : (tally : Tally) (core : Core) (blocks : List MadeBlock) (test : Bool) (refusal : Refusal) (next : Result (Reply × PlainPool) Refusal) (other : Result (Reply × Deed) Refusal) → (test ≡ false → Same tally core next blocks other)
     → Same tally core (refuse_if test refusal >>= (λ _. next)) blocks (refuse_if test refusal >>= (λ _. other))
-same_behind_test tally core blocks true refusal next other goes = refl
-same_behind_test tally core blocks false refusal next other goes = goes refl
+same_after_test tally core blocks true refusal next other goes = refl
+same_after_test tally core blocks false refusal next other goes = goes refl
 
-same_behind : (tally : Tally) (core : Core) (blocks : List MadeBlock) (test : Result (Unit {0}) Refusal) (next : Result (Reply × PlainPool) Refusal) (other : Result (Reply × Deed) Refusal) → Same tally core next blocks other
+same_after : (tally : Tally) (core : Core) (blocks : List MadeBlock) (test : Result (Unit {0}) Refusal) (next : Result (Reply × PlainPool) Refusal) (other : Result (Reply × Deed) Refusal) → Same tally core next blocks other
     → Same tally core (test >>= (λ _. next)) blocks (test >>= (λ _. other))
-same_behind tally core blocks (Ok done) next other goes = goes
-same_behind tally core blocks (Err refusal) next other goes = refl
+same_after tally core blocks (Ok done) next other goes = goes
+same_after tally core blocks (Err refusal) next other goes = refl
 
 -- ---- what is found
 
 -- a dataset is found, or none is
 dataset_cases : (name : List ℕ) (core : Core) (P : Result ℕ Refusal → Type 0) → ((refusal : Refusal) → P (Err refusal)) → ((place : ℕ) (d : HeartDataset) → StandsAt core.datasets place d → P (Ok place)) → P (dataset_of name core)
-unfolding dataset_of place_of
+unfolding dataset_of dataset_index
 dataset_cases name core P refused found =
     ⊎_elim
     (λ (one : FindsAt (λ (d : HeartDataset). bytes_eq d.name name) 0 core.datasets).
@@ -201,21 +201,21 @@ module _ (path : Path) (spot : Spot) (core : Core) (is : IsCore core) (at : IsAt
       (λ (empty : (length bytes == 0) ≡ true). rw empty (refl, refl, refl))
       (λ (full : (length bytes == 0) ≡ false).
       rw (full, room_same offset (length bytes), refused)
-      (same_behind tally core (blocks_touched tally offset (length bytes) path (pool_of core)) (room_in_file offset (length bytes) spot core) _ _
-      (same_behind tally core (blocks_touched tally offset (length bytes) path (pool_of core)) (refuse_charge (unmade_on (first_touched offset) (touched_count offset (length bytes)) spot core) core) _ _
+      (same_after tally core (blocks_touched tally offset (length bytes) path (pool_of core)) (room_in_file offset (length bytes) spot core) _ _
+      (same_after tally core (blocks_touched tally offset (length bytes) path (pool_of core)) (refuse_charge (unmade_on (first_touched offset) (touched_count offset (length bytes)) spot core) core) _ _
       (refl, changed_same (written number offset bytes), blocks))))
       (cases_Bool (length bytes == 0))
 
   -- a size that is set
-  cut_same : (size : ℕ) (tally : Tally) → blocks_cut tally size path (pool_of core) ≡ blocks_there tally (size / 4096) (cut_on size spot core) spot core
-  cut_same size tally =
-      let count = said 0 (cut_count size) in
+  trimmed_same : (size : ℕ) (tally : Tally) → blocks_trimmed tally size path (pool_of core) ≡ blocks_there tally (size / 4096) (trimmed_on size spot core) spot core
+  trimmed_same size tally =
+      let count = said 0 (trimmed_count size) in
       let blocks = rw the_file at (blocks_same tally (size / 4096) 1) in
       rw (the_file, count)
       (⊎_elim
-      (λ (cut : is_cut at.file.value.size size (plain_blocks at.file.value) (size / 4096) ≡ true). rw cut blocks)
-      (λ (whole : is_cut at.file.value.size size (plain_blocks at.file.value) (size / 4096) ≡ false). rw whole (sym (each_none _)))
-      (cases_Bool (is_cut at.file.value.size size (plain_blocks at.file.value) (size / 4096))))
+      (λ (trimmed : is_trimmed at.file.value.size size (plain_blocks at.file.value) (size / 4096) ≡ true). rw trimmed blocks)
+      (λ (whole : is_trimmed at.file.value.size size (plain_blocks at.file.value) (size / 4096) ≡ false). rw whole (sym (each_none _)))
+      (cases_Bool (is_trimmed at.file.value.size size (plain_blocks at.file.value) (size / 4096))))
 
 -- ---- each command
 
@@ -224,8 +224,8 @@ unfolding answer.mkds mkds
 mkds_same dataset tally core =
     let long : length (map plain_dataset core.datasets) ≡ length core.datasets = length-map core.datasets plain_dataset in
     rw (place_same dataset core, long)
-    (same_behind_test tally core [] (is_some (place_of dataset core)) Eexist _ _
-    (λ missing. same_behind_test tally core [] (nat_lt most_datasets (length core.datasets + 1)) _ _ _ (λ few. (refl, refl, refl))))
+    (same_after_test tally core [] (is_some (dataset_index dataset core)) Eexist _ _
+    (λ missing. same_after_test tally core [] (nat_lt most_datasets (length core.datasets + 1)) _ _ _ (λ few. (refl, refl, refl))))
 
 rmds_same : (dataset : List ℕ) (tally : Tally) (core : Core) → Same tally core (answer.rmds dataset (pool_of core)) [] (rmds dataset core)
 unfolding answer.rmds rmds
@@ -259,8 +259,8 @@ create_same dataset file tally core =
     (λ place d stands.
     let long : length (map plain_file d.files) ≡ length d.files = length-map d.files plain_file in
     rw (dataset_is core place d stands, files_are core place d stands, name_same file d, long)
-    (same_behind_test tally core [] (is_some (id_called file d.files)) Eexist _ _
-    (λ missing. same_behind_test tally core [] (nat_lt (most_files (pool_of core)) (length d.files + 1)) _ _ _ (λ few. (refl, refl, refl))))))
+    (same_after_test tally core [] (is_some (id_called file d.files)) Eexist _ _
+    (λ missing. same_after_test tally core [] (nat_lt (most_files (pool_of core)) (length d.files + 1)) _ _ _ (λ few. (refl, refl, refl))))))
 
 remove_same : (dataset file : List ℕ) (tally : Tally) (core : Core) → IsCore core → Same tally core (answer.remove dataset file (pool_of core)) [] (remove dataset file core)
 unfolding answer.remove remove
@@ -288,21 +288,21 @@ fill_same number dataset file offset len byte tally core is agrees =
     (write_same number dataset file offset (replicate len byte) tally core is agrees)
 
 truncate_same : (number : ℕ) (dataset file : List ℕ) (size : ℕ) (tally : Tally) (core : Core) → IsCore core → Agrees tally core
-    → Same tally core (answer.truncate number dataset file size tally (pool_of core)) (blocks_on (path_of dataset file (pool_of core)) (λ path. blocks_cut tally size path (pool_of core))) (truncate number dataset file size core)
+    → Same tally core (answer.truncate number dataset file size tally (pool_of core)) (blocks_on (path_of dataset file (pool_of core)) (λ path. blocks_trimmed tally size path (pool_of core))) (truncate number dataset file size core)
 unfolding answer.truncate truncate
 truncate_same number dataset file size tally core is agrees =
     path_cases dataset file core is.plain
     (λ path spot. Same tally core
-    (path >>= (λ p. refuse_end size (pool_of core) >>= (λ _. answer.refuse_charge (blocks_cut tally size p (pool_of core)) tally (pool_of core) >>= (λ _. Ok (Done, in_file p (truncated number size) (pool_of core))))))
-    (blocks_on path (λ p. blocks_cut tally size p (pool_of core)))
-    (spot >>= (λ s. refuse_end size (pool_of core) >>= (λ _. refuse_charge (unmade_on (size / 4096) (cut_on size s core) s core) core >>= (λ _. Ok (Done, SetSize number s size))))))
+    (path >>= (λ p. refuse_end size (pool_of core) >>= (λ _. answer.refuse_charge (blocks_trimmed tally size p (pool_of core)) tally (pool_of core) >>= (λ _. Ok (Done, in_file p (truncated number size) (pool_of core))))))
+    (blocks_on path (λ p. blocks_trimmed tally size p (pool_of core)))
+    (spot >>= (λ s. refuse_end size (pool_of core) >>= (λ _. refuse_charge (unmade_on (size / 4096) (trimmed_on size s core) s core) core >>= (λ _. Ok (Done, SetSize number s size))))))
     (λ refusal. refl)
     (λ path spot at.
-    let blocks = cut_same path spot core is at size tally in
-    let refused = refuse_same path spot core is at tally (size / 4096) (cut_on size spot core) (blocks_cut tally size path (pool_of core)) blocks agrees in
+    let blocks = trimmed_same path spot core is at size tally in
+    let refused = refuse_same path spot core is at tally (size / 4096) (trimmed_on size spot core) (blocks_trimmed tally size path (pool_of core)) blocks agrees in
     rw refused
-    (same_behind tally core (blocks_cut tally size path (pool_of core)) (refuse_end size (pool_of core)) _ _
-    (same_behind tally core (blocks_cut tally size path (pool_of core)) (refuse_charge (unmade_on (size / 4096) (cut_on size spot core) spot core) core) _ _
+    (same_after tally core (blocks_trimmed tally size path (pool_of core)) (refuse_end size (pool_of core)) _ _
+    (same_after tally core (blocks_trimmed tally size path (pool_of core)) (refuse_charge (unmade_on (size / 4096) (trimmed_on size spot core) spot core) core) _ _
     (refl, changed_same path spot core is at (truncated number size), blocks))))
 
 -- the bytes of a file have nothing to do with its number and its name
@@ -318,7 +318,7 @@ read_same dataset file offset len tally core is =
     (path >>= (λ p. refuse_if (nat_lt most_read len) (Einval bad.Length) >>= (λ _. Ok (Data (bytes_from offset len (file_at p (pool_of core))), pool_of core)))) []
     (spot >>= (λ s. refuse_if (nat_lt most_read len) (Einval bad.Length) >>= (λ _. Ok (Data (bytes_on offset len s core), Nothing)))))
     (λ refusal. refl)
-    (λ path spot at. same_behind_test tally core [] (nat_lt most_read len) _ _ _
+    (λ path spot at. same_after_test tally core [] (nat_lt most_read len) _ _ _
     (λ few.
     let bytes = ap (bytes_from offset len) (the_file path spot core is at) ∙ bytes_same offset len at.file ∙ sym (said path spot core is at [] (λ (file : HeartFile). bytes_from offset len (bare file))) in
     (ap Data bytes, refl, refl)))
@@ -355,7 +355,7 @@ named_same number tally core Commit is agrees = (refl, refl, refl)
 pub answers_same : (number : ℕ) (tally : Tally) (core : Core) (command : Command) → IsCore core → Agrees tally core
     → Same tally core (answer.answer number tally (pool_of core) command) (blocks_of_command tally (pool_of core) command) (deeds.answer number core command)
 unfolding answer.answer deeds.answer
-answers_same number tally core command is agrees = same_behind tally core (blocks_of_command tally (pool_of core) command) (refuse_long command) _ _ (named_same number tally core command is agrees)
+answers_same number tally core command is agrees = same_after tally core (blocks_of_command tally (pool_of core) command) (refuse_long command) _ _ (named_same number tally core command is agrees)
 
 -- ---- what a call gives
 
@@ -432,16 +432,16 @@ abbrev IsQuiet : Result (Reply × Deed) Refusal → Type 0
 IsQuiet (Ok done) = is_data done.0 ≡ true → done.1 ≡ Nothing
 IsQuiet (Err refusal) = Unit {0}
 
--- so it is behind one test
-quiet_behind : {X : Type 0} (test : Result X Refusal) (next : X → Result (Reply × Deed) Refusal) → ((x : X) → IsQuiet (next x)) → IsQuiet (test >>= next)
-quiet_behind (Ok x) next quiet = quiet x
-quiet_behind (Err refusal) next quiet = tt
+-- so it is after one test
+quiet_after : {X : Type 0} (test : Result X Refusal) (next : X → Result (Reply × Deed) Refusal) → ((x : X) → IsQuiet (next x)) → IsQuiet (test >>= next)
+quiet_after (Ok x) next quiet = quiet x
+quiet_after (Err refusal) next quiet = tt
 
 put_some_quiet : (number : ℕ) (spot : Spot) (offset : ℕ) (bytes : List ℕ) (core : Core) → IsQuiet (put_some number spot offset bytes core)
 unfolding put_some
 put_some_quiet number spot offset bytes core =
-    quiet_behind (room_in_file offset (length bytes) spot core) _ (λ _.
-    quiet_behind (refuse_charge (unmade_on (first_touched offset) (touched_count offset (length bytes)) spot core) core) _ (λ _.
+    quiet_after (room_in_file offset (length bytes) spot core) _ (λ _.
+    quiet_after (refuse_charge (unmade_on (first_touched offset) (touched_count offset (length bytes)) spot core) core) _ (λ _.
     λ with_bytes. absurd (false≢true with_bytes)))
 
 put_quiet : (number : ℕ) (spot : Spot) (offset : ℕ) (bytes : List ℕ) (core : Core) → IsQuiet (put number spot offset bytes core)
@@ -454,39 +454,39 @@ put_quiet number spot offset bytes core = by (length bytes == 0)
 
 write_quiet : (number : ℕ) (dataset file : List ℕ) (offset : ℕ) (bytes : List ℕ) (core : Core) → IsQuiet (write number dataset file offset bytes core)
 unfolding write
-write_quiet number dataset file offset bytes core = quiet_behind (spot_of dataset file core) _ (λ spot. put_quiet number spot offset bytes core)
+write_quiet number dataset file offset bytes core = quiet_after (spot_of dataset file core) _ (λ spot. put_quiet number spot offset bytes core)
 
 named_quiet : (number : ℕ) (core : Core) (command : Command) → IsQuiet (named_answer number core command)
 unfolding mkds rmds mount create remove truncate read stat
 named_quiet number core (Mkds dataset) =
-    quiet_behind (refuse_if (is_some (place_of dataset core)) Eexist) _ (λ _.
-    quiet_behind (refuse_if (nat_lt most_datasets (length core.datasets + 1)) (Enospc what.Datasets (length core.datasets + 1) most_datasets)) _ (λ _.
+    quiet_after (refuse_if (is_some (dataset_index dataset core)) Eexist) _ (λ _.
+    quiet_after (refuse_if (nat_lt most_datasets (length core.datasets + 1)) (Enospc what.Datasets (length core.datasets + 1) most_datasets)) _ (λ _.
     λ with_bytes. absurd (false≢true with_bytes)))
-named_quiet number core (Rmds dataset) = quiet_behind (dataset_of dataset core) _ (λ place. λ with_bytes. absurd (false≢true with_bytes))
-named_quiet number core (Mount dataset) = quiet_behind (dataset_of dataset core) _ (λ place. tt)
+named_quiet number core (Rmds dataset) = quiet_after (dataset_of dataset core) _ (λ place. λ with_bytes. absurd (false≢true with_bytes))
+named_quiet number core (Mount dataset) = quiet_after (dataset_of dataset core) _ (λ place. tt)
 named_quiet number core (Create dataset file) =
-    quiet_behind (dataset_of dataset core) _ (λ place.
-    quiet_behind (refuse_if (is_some (id_called file (files_in place core))) Eexist) _ (λ _.
-    quiet_behind (refuse_if (nat_lt (most_files (pool_of core)) (length (files_in place core) + 1)) (Enospc what.Files (length (files_in place core) + 1) (most_files (pool_of core)))) _ (λ _.
+    quiet_after (dataset_of dataset core) _ (λ place.
+    quiet_after (refuse_if (is_some (id_called file (files_in place core))) Eexist) _ (λ _.
+    quiet_after (refuse_if (nat_lt (most_files (pool_of core)) (length (files_in place core) + 1)) (Enospc what.Files (length (files_in place core) + 1) (most_files (pool_of core)))) _ (λ _.
     λ with_bytes. absurd (false≢true with_bytes))))
-named_quiet number core (Remove dataset file) = quiet_behind (spot_of dataset file core) _ (λ spot. λ with_bytes. absurd (false≢true with_bytes))
+named_quiet number core (Remove dataset file) = quiet_after (spot_of dataset file core) _ (λ spot. λ with_bytes. absurd (false≢true with_bytes))
 named_quiet number core (Write dataset file offset bytes) = write_quiet number dataset file offset bytes core
 named_quiet number core (Fill dataset file offset len byte) = write_quiet number dataset file offset (replicate len byte) core
 named_quiet number core (Truncate dataset file size) =
-    quiet_behind (spot_of dataset file core) _ (λ spot.
-    quiet_behind (refuse_end size (pool_of core)) _ (λ _.
-    quiet_behind (refuse_charge (unmade_on (size / 4096) (cut_on size spot core) spot core) core) _ (λ _.
+    quiet_after (spot_of dataset file core) _ (λ spot.
+    quiet_after (refuse_end size (pool_of core)) _ (λ _.
+    quiet_after (refuse_charge (unmade_on (size / 4096) (trimmed_on size spot core) spot core) core) _ (λ _.
     λ with_bytes. absurd (false≢true with_bytes))))
 named_quiet number core (Read dataset file offset len) =
-    quiet_behind (spot_of dataset file core) _ (λ spot.
-    quiet_behind (refuse_if (nat_lt most_read len) (Einval bad.Length)) _ (λ _.
+    quiet_after (spot_of dataset file core) _ (λ spot.
+    quiet_after (refuse_if (nat_lt most_read len) (Einval bad.Length)) _ (λ _.
     λ with_bytes. refl))
-named_quiet number core (Stat dataset file) = quiet_behind (spot_of dataset file core) _ (λ spot. λ with_bytes. absurd (false≢true with_bytes))
+named_quiet number core (Stat dataset file) = quiet_after (spot_of dataset file core) _ (λ spot. λ with_bytes. absurd (false≢true with_bytes))
 named_quiet number core Commit = λ with_bytes. absurd (false≢true with_bytes)
 
 answer_quiet : (number : ℕ) (core : Core) (command : Command) → IsQuiet (deeds.answer number core command)
 unfolding deeds.answer
-answer_quiet number core command = quiet_behind (refuse_long command) _ (λ _. named_quiet number core command)
+answer_quiet number core command = quiet_after (refuse_long command) _ (λ _. named_quiet number core command)
 
 unchanged_by : (old new : Core) (reply : Reply) (does : Result (Reply × Deed) Refusal) → IsQuiet does → Gives old new reply does → is_data reply ≡ true → new ≡ old
 unchanged_by old new reply (Ok does) quiet gives with_bytes =

@@ -9,10 +9,10 @@ use Rattle.zc_num.proofs.Each.{each_none, each_more}
 use Rattle.zc_plain.specs.declared.tally.MadeBlock.{MadeBlock}
 use Rattle.zc_plain.specs.Charge.{with_one, with_each, is_block}
 use Rattle.zc_plain.proofs.Counted.{counted_push, added_none, added_push}
-use Rattle.zc_heart.specs.Core.{made_behind}
+use Rattle.zc_heart.specs.Core.{made_after}
 use Rattle.zc_heart.specs.Steps.{is_within}
 
--- a block of a file, made behind so many seals
+-- a block of a file, made after so many seals
 abbrev pub block_of : (seals dataset file block : ℕ) → MadeBlock
 block_of seals dataset file block = record { seals = seals; dataset = dataset; file = file; block = block }
 
@@ -64,7 +64,7 @@ any_once_added made block x =
     or_none true = refl
     or_none false = refl
 
--- how many there are, and how many behind so many seals
+-- how many there are, and how many after so many seals
 count_once_added : (made : List MadeBlock) (block : MadeBlock) (p : MadeBlock → Bool) → count_by p (with_one is_block made block) ≡ count_by p made + (if list_any (is_block block) made then 0 else cond (p block) 1 0)
 count_once_added made block p =
     ⊎_elim
@@ -84,12 +84,12 @@ all_once_added : (P : MadeBlock → Type 0) (made : List MadeBlock) (block : Mad
 all_once_added P made block all one =
     ⊎_elim
     (λ (there : list_any (is_block block) made ≡ true). rw there all)
-    (λ (new : list_any (is_block block) made ≡ false). rw new (all_behind made all))
+    (λ (new : list_any (is_block block) made ≡ false). rw new (all_after made all))
     (cases_Bool (list_any (is_block block) made))
   where
-    all_behind : (xs : List MadeBlock) → AllByRecursion P xs → AllByRecursion P (xs ++ block ∷ [])
-    all_behind [] all = (one, tt)
-    all_behind (x ∷ xs) all = (all.0, all_behind xs all.1)
+    all_after : (xs : List MadeBlock) → AllByRecursion P xs → AllByRecursion P (xs ++ block ∷ [])
+    all_after [] all = (one, tt)
+    all_after (x ∷ xs) all = (all.0, all_after xs all.1)
 
 -- the block is one of so many of the file from the first on
 abbrev pub is_among : (dataset file first count : ℕ) → (other_dataset other_file block : ℕ) → Bool
@@ -205,16 +205,16 @@ module _ (made : List MadeBlock) (seals dataset file first : ℕ) where
       (λ (new : has dataset file (first + n) ≡ false). rw new (omega arith))
       (cases_Bool (has dataset file (first + n))))
 
-  -- how many were made behind so many seals
-  pub behind_more : (n s : ℕ) → made_behind s (more n) ≡ made_behind s made + cond (seals == s) (fresh n) 0
-  behind_more zero s = rw (more_none, fresh_none) (either (seals == s))
+  -- how many were made after so many seals
+  pub after_more : (n s : ℕ) → made_after s (more n) ≡ made_after s made + cond (seals == s) (fresh n) 0
+  after_more zero s = rw (more_none, fresh_none) (either (seals == s))
     where
-      either : (b : Bool) → made_behind s made ≡ made_behind s made + cond b 0 0
+      either : (b : Bool) → made_after s made ≡ made_after s made + cond b 0 0
       either true = omega arith
       either false = omega arith
-  behind_more (suc n) s =
+  after_more (suc n) s =
       let next : suc n ≡ n + 1 = omega arith in
-      let rest = behind_more n s in
+      let rest = after_more n s in
       let one = count_once_added (more n) (block_of seals dataset file (first + n)) (λ (b : MadeBlock). b.seals == s) in
       rw (next, more_one n, fresh_one n, one, next_has n)
       (⊎_elim

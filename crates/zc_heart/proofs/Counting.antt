@@ -67,7 +67,7 @@ pub file_counted : (stamps : Stamps) (files : List (Named HeartFile)) (at : ℕ)
 file_counted stamps files at named counted stands =
     λ stamp. let all = counted_in_files stamp files in omega (arith, all, counted stamp, sum_of_one (count_of stamp) at files named stands)
 
--- where no block was made by a command behind one, none was made by a later one
+-- where no block was made by a command after one, none was made by a later one
 no_later_blocks : (last number index : ℕ) (blocks : List PlainBlock) → last < number → AllByRecursion (IsMadeBy last) blocks → count_by (is_stamp (number, index)) (flat_map stamp_of blocks) ≡ 0
 no_later_blocks last number index [] later all = refl
 no_later_blocks last number index (Hole ∷ blocks) later all = no_later_blocks last number index blocks later all.1

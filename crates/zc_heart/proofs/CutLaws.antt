@@ -1,4 +1,4 @@
--- A file whose size was set: the block in which it is cut, and those that go.
+-- A file whose size was set: the block in which it is trimmed, and those that go.
 use Rattle.std.proofs.Common.{◌≡◌, ◌≢◌, ◌⊎◌, inl, inr, ℕ, ◌+◌, ◌-◌, ◌/◌, ◌<◌, ◌≤◌, ◌==◌, ◌||◌, Bool, true, false, List, [], replicate, Option, Some, None, refl, sym, ap, subst, ◌∙◌, ⊎_elim, arith}
 use Rattle.std.specs.Prelude.{if◌then◌else◌}
 use Rattle.std.proofs.lemmas.Bool.{cases_Bool, cases_eq, cases_lt, eq-eqb, ne_eqb}
@@ -10,107 +10,107 @@ use Rattle.zc_plain.specs.declared.plain_pool.PlainBlock.{PlainBlock}
 use Rattle.zc_plain.specs.declared.plain_pool.PlainBlock.TheVariants.{Hole, Made}
 use Rattle.zc_plain.specs.PlainPool.{is_made as is_held}
 use Rattle.zc_plain.specs.PlainPool.{blocks_of_size, bytes_of_block}
-use Rattle.zc_plain.specs.Truncated.{is_cut, kept_in, cut_block, truncated_block, truncated}
-use Rattle.zc_plain.proofs.TruncatedLaws.{cut_lies, made_where_cut, kept_where_uncut}
+use Rattle.zc_plain.specs.Truncated.{is_trimmed, kept_in, trimmed_block, truncated_block, truncated}
+use Rattle.zc_plain.proofs.TruncatedLaws.{trimmed_lies, made_where_trimmed, kept_where_uncut}
 use Rattle.zc_heart.specs.declared.file.HeartFile.{HeartFile}
 use Rattle.zc_heart.specs.declared.stamps.Stamps.{Stamps}
 use Rattle.zc_heart.specs.Core.{plain_blocks, IsHeartFile}
 use Rattle.zc_heart.specs.File.{bare, StaysCounted, Marks, CountsChange, Truncates}
-use Rattle.zc_heart.specs.Steps.{held_at, KeepsAll, Sets, IsCut, PutsCut, DropsFrom, cut_bytes, with_size}
+use Rattle.zc_heart.specs.Steps.{held_at, KeepsAll, Sets, IsCut, PutsCut, DropsFrom, trimmed_bytes, with_size}
 use Rattle.zc_heart.proofs.HeldLaws.{block_of_heart}
 use Rattle.zc_heart.proofs.StepLaws.{or_nothing, keeps_on, kept_blocks, marks_on, marks_as, marks_kept, marks_same, counts_on, counts_stay, counts_kept, stays_same}
 use Rattle.zc_heart.proofs.WriteLaws.{sized_heart, sized_marks, sized_counts}
 
--- ---- the block that is cut
+-- ---- the block that is trimmed
 
--- a file is cut in the block of its last byte alone
-pub cut_there_alone : (old size : ℕ) (blocks : List PlainBlock) (k : ℕ) → k ≢ size / 4096 → is_cut old size blocks k ≡ false
-cut_there_alone old size blocks k apart =
+-- a file is trimmed in the block of its last byte alone
+pub trimmed_there_alone : (old size : ℕ) (blocks : List PlainBlock) (k : ℕ) → k ≢ size / 4096 → is_trimmed old size blocks k ≡ false
+trimmed_there_alone old size blocks k apart =
     ⊎_elim
-    (λ (is : is_cut old size blocks k ≡ true).
-    let lies = cut_lies old size blocks k is in
+    (λ (is : is_trimmed old size blocks k ≡ true).
+    let lies = trimmed_lies old size blocks k is in
     let same : k ≡ size / 4096 = omega (arith, lies.1, lies.2) in
     absurd (apart same))
-    (λ (no : is_cut old size blocks k ≡ false). no)
-    (cases_Bool (is_cut old size blocks k))
+    (λ (no : is_trimmed old size blocks k ≡ false). no)
+    (cases_Bool (is_trimmed old size blocks k))
 
--- where it isn't cut there, it is cut nowhere
-pub cut_nowhere : (old size : ℕ) (blocks : List PlainBlock) (k : ℕ) → is_cut old size blocks (size / 4096) ≡ false → is_cut old size blocks k ≡ false
-cut_nowhere old size blocks k uncut =
+-- where it isn't trimmed there, it is trimmed nowhere
+pub trimmed_nowhere : (old size : ℕ) (blocks : List PlainBlock) (k : ℕ) → is_trimmed old size blocks (size / 4096) ≡ false → is_trimmed old size blocks k ≡ false
+trimmed_nowhere old size blocks k uncut =
     ⊎_elim
-    (λ (same : k ≡ size / 4096). ap (is_cut old size blocks) same ∙ uncut)
-    (λ (apart : k ≢ size / 4096). cut_there_alone old size blocks k apart)
+    (λ (same : k ≡ size / 4096). ap (is_trimmed old size blocks) same ∙ uncut)
+    (λ (apart : k ≢ size / 4096). trimmed_there_alone old size blocks k apart)
     (cases_eq k (size / 4096))
 
--- a block that was made for the cut tells that the file is cut, and has the bytes
-pub cut_made : (test : Bool) (cut : Option (List ℕ)) (bytes others : List ℕ) → cut ≡ (if test then Some others else None) → cut ≡ Some bytes → (test ≡ true) × (bytes ≡ others)
-cut_made true cut bytes others is some = (refl, same_Some bytes others (sym some ∙ is))
-cut_made false cut bytes others is some = absurd (none-some bytes (sym is ∙ some))
+-- a block that was made by a truncation tells that the file is trimmed, and has the bytes
+pub trimmed_made : (test : Bool) (trimmed : Option (List ℕ)) (bytes others : List ℕ) → trimmed ≡ (if test then Some others else None) → trimmed ≡ Some bytes → (test ≡ true) × (bytes ≡ others)
+trimmed_made true trimmed bytes others is some = (refl, same_Some bytes others (sym some ∙ is))
+trimmed_made false trimmed bytes others is some = absurd (none-some bytes (sym is ∙ some))
 
-pub cut_not_made : (test : Bool) (cut : Option (List ℕ)) (others : List ℕ) → cut ≡ (if test then Some others else None) → cut ≡ None → test ≡ false
-cut_not_made true cut others is none = absurd (none-some others (sym none ∙ is))
-cut_not_made false cut others is none = refl
+pub trimmed_not_made : (test : Bool) (trimmed : Option (List ℕ)) (others : List ℕ) → trimmed ≡ (if test then Some others else None) → trimmed ≡ None → test ≡ false
+trimmed_not_made true trimmed others is none = absurd (none-some others (sym none ∙ is))
+trimmed_not_made false trimmed others is none = refl
 
 -- what was made for the file is what is made for one that keeps all
-pub cut_kept : (number size : ℕ) (cut : Option (List ℕ)) (old roomy new : HeartFile) (s : Stamps) → IsCut number size cut old roomy s → KeepsAll old roomy → KeepsAll roomy new → IsCut number size cut new new s
-unfolding cut_bytes
-cut_kept number size cut old roomy new s is first second =
+pub trimmed_kept : (number size : ℕ) (trimmed : Option (List ℕ)) (old roomy new : HeartFile) (s : Stamps) → IsCut number size trimmed old roomy s → KeepsAll old roomy → KeepsAll roomy new → IsCut number size trimmed new new s
+unfolding trimmed_bytes
+trimmed_kept number size trimmed old roomy new s is first second =
     let keeps = keeps_on old roomy new first second in
     let at = size / 4096 in
-    let sized : is_cut new.size size (plain_blocks new) at ≡ is_cut old.size size (plain_blocks old) at =
-    ap (λ (n : ℕ). is_cut n size (plain_blocks new) at) keeps.size ∙ ap (λ (blocks : List PlainBlock). is_cut old.size size blocks at) (kept_blocks old new keeps) in
-    let bytes : cut_bytes size new at ≡ cut_bytes size old at =
+    let sized : is_trimmed new.size size (plain_blocks new) at ≡ is_trimmed old.size size (plain_blocks old) at =
+    ap (λ (n : ℕ). is_trimmed n size (plain_blocks new) at) keeps.size ∙ ap (λ (blocks : List PlainBlock). is_trimmed old.size size blocks at) (kept_blocks old new keeps) in
+    let bytes : trimmed_bytes size new at ≡ trimmed_bytes size old at =
     ap (λ (block : PlainBlock). edited (bytes_of_block block) (kept_in at size) (replicate (4096 - kept_in at size) 0)) (keeps.blocks at) in
     record {
-      bytes = is.bytes ∙ sym (ap (λ (test : Bool). if test then Some (cut_bytes size new at) else None) sized ∙ ap (λ (all : List ℕ). if is_cut old.size size (plain_blocks old) at then Some all else None) bytes);
+      bytes = is.bytes ∙ sym (ap (λ (test : Bool). if test then Some (trimmed_bytes size new at) else None) sized ∙ ap (λ (all : List ℕ). if is_trimmed old.size size (plain_blocks old) at then Some all else None) bytes);
       room = λ some. let room = is.room some in (second.room at room.0, second.mark_room at room.1);
       stamp_room = is.stamp_room;
     }
 
--- a block is cut inside the file
-pub cut_inside : (old size : ℕ) (blocks : List PlainBlock) → is_cut old size blocks (size / 4096) ≡ true → (size / 4096 < blocks_of_size old) × (size / 4096 < blocks_of_size size)
-cut_inside old size blocks is = let lies = cut_lies old size blocks (size / 4096) is in (omega (arith, lies.0), omega (arith, lies.1))
+-- a block is trimmed inside the file
+pub trimmed_inside : (old size : ℕ) (blocks : List PlainBlock) → is_trimmed old size blocks (size / 4096) ≡ true → (size / 4096 < blocks_of_size old) × (size / 4096 < blocks_of_size size)
+trimmed_inside old size blocks is = let lies = trimmed_lies old size blocks (size / 4096) is in (omega (arith, lies.0), omega (arith, lies.1))
 
 -- the block is put
-pub puts_cut : (number size : ℕ) (bytes : List ℕ) (old new : HeartFile) (s t : Stamps) → IsHeartFile old → is_cut old.size size (plain_blocks old) (size / 4096) ≡ true → bytes ≡ cut_bytes size old (size / 4096)
+pub puts_trimmed : (number size : ℕ) (bytes : List ℕ) (old new : HeartFile) (s t : Stamps) → IsHeartFile old → is_trimmed old.size size (plain_blocks old) (size / 4096) ≡ true → bytes ≡ trimmed_bytes size old (size / 4096)
     → IsHeartFile new → Sets (size / 4096) (Made number (size / 4096) bytes) old new → Marks (λ k. k == size / 4096) old new → CountsChange s t old new → PutsCut number size old new s t
-unfolding cut_bytes cut_block
-puts_cut number size bytes old new s t heart is same heart_behind sets marks counts =
+unfolding trimmed_bytes trimmed_block
+puts_trimmed number size bytes old new s t heart is same heart_after sets marks counts =
     let at = size / 4096 in
     let blocks = plain_blocks old in
     record {
-      heart = heart_behind;
+      heart = heart_after;
       size_is = sets.size;
       sized = sets.sized;
       blocks = λ k. ⊎_elim
           (λ (here : k ≡ at).
           ap (λ (n : ℕ). held_at n new) here ∙ sets.here ∙ ap (λ (all : List ℕ). Made number at all) same
           ∙ ap (λ (block : PlainBlock). Made number at (edited (bytes_of_block block) (kept_in at size) (replicate (4096 - kept_in at size) 0))) (sym (block_of_heart old at heart))
-          ∙ sym (made_where_cut number old.size size blocks at is)
+          ∙ sym (made_where_trimmed number old.size size blocks at is)
           ∙ ap (truncated_block number old.size size blocks) (sym here))
           (λ (apart : k ≢ at).
-          sets.others k apart ∙ sym (block_of_heart old k heart) ∙ sym (kept_where_uncut number old.size size blocks k (cut_there_alone old.size size blocks k apart)))
+          sets.others k apart ∙ sym (block_of_heart old k heart) ∙ sym (kept_where_uncut number old.size size blocks k (trimmed_there_alone old.size size blocks k apart)))
           (cases_eq k at);
-      marks = marks_as (λ k. k == at) (is_cut old.size size blocks) old new
+      marks = marks_as (λ k. k == at) (is_trimmed old.size size blocks) old new
           (λ k. ⊎_elim
-          (λ (here : k ≡ at). eq-eqb k at here ∙ sym (ap (is_cut old.size size blocks) here ∙ is))
-          (λ (apart : k ≢ at). ne_eqb k at apart ∙ sym (cut_there_alone old.size size blocks k apart))
+          (λ (here : k ≡ at). eq-eqb k at here ∙ sym (ap (is_trimmed old.size size blocks) here ∙ is))
+          (λ (apart : k ≢ at). ne_eqb k at apart ∙ sym (trimmed_there_alone old.size size blocks k apart))
           (cases_eq k at))
           marks;
       counts = counts;
       room = λ k past room held.
-          let apart : k ≢ at = λ (here : k ≡ at). absurd (omega (arith, past, here, (cut_inside old.size size blocks is).1)) in
+          let apart : k ≢ at = λ (here : k ≡ at). absurd (omega (arith, past, here, (trimmed_inside old.size size blocks is).1)) in
           sets.mark_room k apart (room (sym (ap is_held (sets.others k apart)) ∙ held));
     }
 
--- nothing is cut
-pub puts_no_cut : (number size : ℕ) (old : HeartFile) (s : Stamps) → IsHeartFile old → is_cut old.size size (plain_blocks old) (size / 4096) ≡ false → PutsCut number size old old s s
-puts_no_cut number size old s heart uncut = record {
+-- nothing is trimmed
+pub puts_no_trimmed : (number size : ℕ) (old : HeartFile) (s : Stamps) → IsHeartFile old → is_trimmed old.size size (plain_blocks old) (size / 4096) ≡ false → PutsCut number size old old s s
+puts_no_trimmed number size old s heart uncut = record {
   heart = heart;
   size_is = refl;
   sized = refl;
-  blocks = λ k. sym (block_of_heart old k heart) ∙ sym (kept_where_uncut number old.size size (plain_blocks old) k (cut_nowhere old.size size (plain_blocks old) k uncut));
-  marks = marks_as (λ k. false) (is_cut old.size size (plain_blocks old)) old old (λ k. sym (cut_nowhere old.size size (plain_blocks old) k uncut)) (marks_same old);
+  blocks = λ k. sym (block_of_heart old k heart) ∙ sym (kept_where_uncut number old.size size (plain_blocks old) k (trimmed_nowhere old.size size (plain_blocks old) k uncut));
+  marks = marks_as (λ k. false) (is_trimmed old.size size (plain_blocks old)) old old (λ k. sym (trimmed_nowhere old.size size (plain_blocks old) k uncut)) (marks_same old);
   counts = counts_stay s s old old (stays_same s) (λ stamp. refl);
   room = λ k past room. room;
 }
@@ -172,52 +172,52 @@ drops_all from upto old new s t heart ends drops = record {
 
 -- ---- all of a truncation
 
--- what is known once there was room, the block that is cut was put, those behind it went, and the size was set
-pub record IsTruncating (number size : ℕ) (old roomy cut dropped new : HeartFile) (s t u v : Stamps) : Type 0 where
+-- what is known once there was room, the block that is trimmed was put, those after it went, and the size was set
+pub record IsTruncating (number size : ℕ) (old roomy trimmed dropped new : HeartFile) (s t u v : Stamps) : Type 0 where
   pub heart : IsHeartFile old
   pub keeps : KeepsAll old roomy
   pub stays : StaysCounted s t
-  pub puts : PutsCut number size roomy cut t u
-  pub drops : DropsFrom (blocks_of_size size) cut dropped u v
+  pub puts : PutsCut number size roomy trimmed t u
+  pub drops : DropsFrom (blocks_of_size size) trimmed dropped u v
   pub new_is : new ≡ with_size size dropped
 
-block_truncated : (number size : ℕ) (old roomy cut dropped new : HeartFile) (s t u v : Stamps) → IsTruncating number size old roomy cut dropped new s t u v → (k : ℕ) → k < blocks_of_size size
+block_truncated : (number size : ℕ) (old roomy trimmed dropped new : HeartFile) (s t u v : Stamps) → IsTruncating number size old roomy trimmed dropped new s t u v → (k : ℕ) → k < blocks_of_size size
     → held_at k new ≡ truncated_block number old.size size (plain_blocks old) k
-block_truncated number size old roomy cut dropped new s t u v is k below =
+block_truncated number size old roomy trimmed dropped new s t u v is k below =
     ap (λ (file : HeartFile). held_at k file) is.new_is ∙ is.drops.others k below ∙ is.puts.blocks k
     ∙ ap (λ (n : ℕ). truncated_block number n size (plain_blocks roomy) k) is.keeps.size
     ∙ ap (λ (blocks : List PlainBlock). truncated_block number old.size size blocks k) (kept_blocks old roomy is.keeps)
 
-bare_truncated : (number size : ℕ) (old roomy cut dropped new : HeartFile) (s t u v : Stamps) → IsTruncating number size old roomy cut dropped new s t u v → bare new ≡ truncated number size (bare old)
+bare_truncated : (number size : ℕ) (old roomy trimmed dropped new : HeartFile) (s t u v : Stamps) → IsTruncating number size old roomy trimmed dropped new s t u v → bare new ≡ truncated number size (bare old)
 unfolding truncated
-bare_truncated number size old roomy cut dropped new s t u v is =
+bare_truncated number size old roomy trimmed dropped new s t u v is =
     let all : new.size ≡ size = ap (λ (file : HeartFile). file.size) is.new_is in
     ap (λ (n : ℕ). record { id = 0; name = []; size = n; blocks = each (blocks_of_size n) (λ k. held_at k new) }) all
     ∙ ap (λ (blocks : List PlainBlock). record { id = 0; name = []; size = size; blocks = blocks })
-    (each_same (blocks_of_size size) (λ k. held_at k new) (truncated_block number old.size size (plain_blocks old)) (λ k below. block_truncated number size old roomy cut dropped new s t u v is k below))
+    (each_same (blocks_of_size size) (λ k. held_at k new) (truncated_block number old.size size (plain_blocks old)) (λ k below. block_truncated number size old roomy trimmed dropped new s t u v is k below))
 
-pub heart_truncated : (number size : ℕ) (old roomy cut dropped new : HeartFile) (s t u v : Stamps) → IsTruncating number size old roomy cut dropped new s t u v → IsHeartFile new
-heart_truncated number size old roomy cut dropped new s t u v is =
+pub heart_truncated : (number size : ℕ) (old roomy trimmed dropped new : HeartFile) (s t u v : Stamps) → IsTruncating number size old roomy trimmed dropped new s t u v → IsHeartFile new
+heart_truncated number size old roomy trimmed dropped new s t u v is =
     subst (λ (file : HeartFile). IsHeartFile file) (sym is.new_is) (sized_heart size dropped is.drops.heart is.drops.dropped)
 
-pub truncation_done : (number size : ℕ) (old roomy cut dropped new : HeartFile) (s t u v : Stamps) → IsTruncating number size old roomy cut dropped new s t u v → Truncates number size old new
-truncation_done number size old roomy cut dropped new s t u v is =
-    let cuts = is_cut roomy.size size (plain_blocks roomy) in
+pub truncation_done : (number size : ℕ) (old roomy trimmed dropped new : HeartFile) (s t u v : Stamps) → IsTruncating number size old roomy trimmed dropped new s t u v → Truncates number size old new
+truncation_done number size old roomy trimmed dropped new s t u v is =
+    let trims = is_trimmed roomy.size size (plain_blocks roomy) in
     let none : ℕ → Bool = λ k. false in
     let last : Marks none dropped new = subst (λ (file : HeartFile). Marks none dropped file) (sym is.new_is) (sized_marks size dropped is.drops.heart is.drops.dropped) in
-    let first : Marks (λ k. false || cuts k) old cut = marks_on none cuts old roomy cut (marks_kept old roomy is.keeps) is.puts.marks in
-    let second : Marks (λ k. (false || cuts k) || false) old dropped = marks_on (λ k. false || cuts k) none old cut dropped first is.drops.marks in
-    let third : Marks (λ k. ((false || cuts k) || false) || false) old new = marks_on (λ k. (false || cuts k) || false) none old dropped new second last in
+    let first : Marks (λ k. false || trims k) old trimmed = marks_on none trims old roomy trimmed (marks_kept old roomy is.keeps) is.puts.marks in
+    let second : Marks (λ k. (false || trims k) || false) old dropped = marks_on (λ k. false || trims k) none old trimmed dropped first is.drops.marks in
+    let third : Marks (λ k. ((false || trims k) || false) || false) old new = marks_on (λ k. (false || trims k) || false) none old dropped new second last in
     record {
-      file = bare_truncated number size old roomy cut dropped new s t u v is;
-      marks = marks_as (λ k. ((false || cuts k) || false) || false) (is_cut old.size size (plain_blocks old)) old new
-          (λ k. sym (or_nothing (cuts k || false)) ∙ sym (or_nothing (cuts k))
-          ∙ ap (λ (n : ℕ). is_cut n size (plain_blocks roomy) k) is.keeps.size ∙ ap (λ (blocks : List PlainBlock). is_cut old.size size blocks k) (kept_blocks old roomy is.keeps))
+      file = bare_truncated number size old roomy trimmed dropped new s t u v is;
+      marks = marks_as (λ k. ((false || trims k) || false) || false) (is_trimmed old.size size (plain_blocks old)) old new
+          (λ k. sym (or_nothing (trims k || false)) ∙ sym (or_nothing (trims k))
+          ∙ ap (λ (n : ℕ). is_trimmed n size (plain_blocks roomy) k) is.keeps.size ∙ ap (λ (blocks : List PlainBlock). is_trimmed old.size size blocks k) (kept_blocks old roomy is.keeps))
           third;
     }
 
-pub truncation_counted : (number size : ℕ) (old roomy cut dropped new : HeartFile) (s t u v : Stamps) → IsTruncating number size old roomy cut dropped new s t u v → CountsChange s v old new
-truncation_counted number size old roomy cut dropped new s t u v is =
+pub truncation_counted : (number size : ℕ) (old roomy trimmed dropped new : HeartFile) (s t u v : Stamps) → IsTruncating number size old roomy trimmed dropped new s t u v → CountsChange s v old new
+truncation_counted number size old roomy trimmed dropped new s t u v is =
     let last : CountsChange v v dropped new = subst (λ (file : HeartFile). CountsChange v v dropped file) (sym is.new_is) (sized_counts size dropped v is.drops.heart is.drops.dropped) in
-    let first = counts_on s t u old roomy cut (counts_kept s t old roomy is.stays is.keeps) is.puts.counts in
-    counts_on s v v old dropped new (counts_on s u v old cut dropped first is.drops.counts) last
+    let first = counts_on s t u old roomy trimmed (counts_kept s t old roomy is.stays is.keeps) is.puts.counts in
+    counts_on s v v old dropped new (counts_on s u v old trimmed dropped first is.drops.counts) last

@@ -134,7 +134,7 @@ module _ {V : Type 0} where
   called_items name entries ids items (Some id) directory same is =
       subst (λ (list : List (Named V)). find (is_numbered id) list ≡ find (is_called name) list) same (called_item name entries ids id directory (sym is))
 
-  -- ---- an item behind the others
+  -- ---- an item after the others
 
   -- each entry is below a number that each item is below
   entries_below : (id : ℕ) (entries : List (ℕ × Named V)) → AllByRecursion IsPlaced entries → AreBelow id (items_of entries) → AllByRecursion (λ (entry : ℕ × Named V). entry.0 < id) entries
@@ -177,19 +177,19 @@ module _ {V : Type 0} where
       or_none None = refl
       or_none (Some item) = refl
 
-  -- the entries with the item behind the others, and what stands in them
-  pub put_behind : (entries : List (ℕ × Named V)) (ids : List (List ℕ × ℕ)) (item : Named V) → IsDirectory entries ids → AreBelow item.id (items_of entries) → insert_entry nat_cmp entries item.id item ≡ entries ++ (item.id, item) ∷ []
-  put_behind entries ids item directory below = put_last item.id item entries (entries_below item.id entries directory.placed below)
+  -- the entries with the item after the others, and what stands in them
+  pub put_after : (entries : List (ℕ × Named V)) (ids : List (List ℕ × ℕ)) (item : Named V) → IsDirectory entries ids → AreBelow item.id (items_of entries) → insert_entry nat_cmp entries item.id item ≡ entries ++ (item.id, item) ∷ []
+  put_after entries ids item directory below = put_last item.id item entries (entries_below item.id entries directory.placed below)
 
   pub items_put : (entries : List (ℕ × Named V)) (ids : List (List ℕ × ℕ)) (item : Named V) → IsDirectory entries ids → AreBelow item.id (items_of entries) → items_of (insert_entry nat_cmp entries item.id item) ≡ items_of entries ++ item ∷ []
-  items_put entries ids item directory below = ap items_of (put_behind entries ids item directory below) ∙ items_pushed entries (item.id, item)
+  items_put entries ids item directory below = ap items_of (put_after entries ids item directory below) ∙ items_pushed entries (item.id, item)
 
   pub directory_put : (entries after : List (ℕ × Named V)) (ids ids_after : List (List ℕ × ℕ)) (item : Named V) → IsDirectory entries ids → AreBelow item.id (items_of entries) → id_called item.name (items_of entries) ≡ None
       → after ≡ insert_entry nat_cmp entries item.id item → IsStrictlySortedBy nat_cmp (keys_of after)
       → ((name : List ℕ) → lookup (is_at (slice_cmp nat_cmp name)) ids_after ≡ cond (is_at (slice_cmp nat_cmp item.name) name) (Some item.id) (lookup (is_at (slice_cmp nat_cmp name)) ids))
       → IsDirectory after ids_after
   directory_put entries after ids ids_after item directory below none put ascending added =
-      let pushed = put ∙ put_behind entries ids item directory below in
+      let pushed = put ∙ put_after entries ids item directory below in
       let free = none_called item.name (items_of entries) none in
       let items : items_of after ≡ items_of entries ++ item ∷ [] = ap items_of pushed ∙ items_pushed entries (item.id, item) in
       record {
@@ -225,7 +225,7 @@ module _ {V : Type 0} where
 
   -- ---- an item less
 
-  -- no item behind the first has its number
+  -- no item after the first has its number
   all_kept : (id key : ℕ) (entries : List (ℕ × Named V)) → key ≡ id → AllByRecursion IsPlaced entries → AllByRecursion (λ (other : ℕ). nat_cmp key other ≡ Less) (keys_of entries) → without id_of id (items_of entries) ≡ items_of entries
   all_kept id key [] here placed above = refl
   all_kept id key (entry ∷ entries) here placed above =
@@ -356,7 +356,7 @@ module _ {V : Type 0} where
 
   -- ---- an item with another value
 
-  -- no item behind the first of the number is changed
+  -- no item after the first of the number is changed
   all_same : (id key : ℕ) (change : Named V → Named V) (entries : List (ℕ × Named V)) → key ≡ id → AllByRecursion IsPlaced entries → AllByRecursion (λ (other : ℕ). nat_cmp key other ≡ Less) (keys_of entries) → change_by id_of id change (items_of entries) ≡ items_of entries
   all_same id key change [] here placed above = refl
   all_same id key change (entry ∷ entries) here placed above =
@@ -440,11 +440,11 @@ module _ {V : Type 0} where
       rw here (one_of found entry.1 (sym item)))
       (λ (other : test entry.0 ≡ false).
       let rest : lookup test entries ≡ Some found = rw other at there in
-      rw other (id_behind name entry.1 (items_of (set_value test entries (with_value value found))) (items_of entries) (id_set test value name entries found rest)))
+      rw other (id_after name entry.1 (items_of (set_value test entries (with_value value found))) (items_of entries) (id_set test value name entries found rest)))
       (cases_Bool (test entry.0))
     where
-      id_behind : (name : List ℕ) (item : Named V) (more items : List (Named V)) → id_called name more ≡ id_called name items → id_called name (item ∷ more) ≡ id_called name (item ∷ items)
-      id_behind name item more items same =
+      id_after : (name : List ℕ) (item : Named V) (more items : List (Named V)) → id_called name more ≡ id_called name items → id_called name (item ∷ more) ≡ id_called name (item ∷ items)
+      id_after name item more items same =
           ⊎_elim
           (λ (here : is_called name item ≡ true). rw here)
           (λ (apart : is_called name item ≡ false). rw apart same)

@@ -17,12 +17,12 @@ use Rattle.zc_plain.specs.declared.tally.Tally.{Tally}
 use Rattle.zc_plain.specs.PlainPool.{blocks_of_size, block_at, dataset_at, in_dataset, in_files}
 use Rattle.zc_plain.specs.Putting.{first_touched, touched_count}
 use Rattle.zc_plain.specs.Written.{touches, made_block, written_block, written}
-use Rattle.zc_plain.specs.Truncated.{is_inside, is_cut, cut_block, truncated_block, truncated}
+use Rattle.zc_plain.specs.Truncated.{is_inside, is_trimmed, trimmed_block, truncated_block, truncated}
 use Rattle.zc_plain.specs.Charge.{is_stamp, stamp_of, is_block, with_each, block_made, blocks_made, with_blocks}
 use Rattle.zc_plain.specs.IsPlain.{StandsAt, IsPlainFile, IsPlain}
 use Rattle.zc_plain.specs.Answer.{most_files, most_bytes, most_charge}
 use Rattle.zc_plain.proofs.NumberedLaws.{one_item, no_item}
-use Rattle.zc_plain.proofs.Together.{touched, untouched_before, untouched_behind}
+use Rattle.zc_plain.proofs.Together.{touched, untouched_before, untouched_after}
 use Rattle.zc_plain.proofs.WrittenLaws.{plain_once_written, id_of_written, name_of_written}
 use Rattle.zc_plain.proofs.TruncatedLaws.{plain_once_truncated, id_of_truncated, name_of_truncated}
 use Rattle.zc_plain.proofs.PlainLaws.{plain_in_file, short_once_written, short_once_truncated}
@@ -39,13 +39,13 @@ use Rattle.zc_heart.specs.File.{bare, unmade_in, StaysFile, StaysCounted, Marks,
 use Rattle.zc_heart.specs.Steps.{is_within}
 use Rattle.zc_heart.specs.Core.{plain_file, plain_dataset, plain_blocks, pool_of, charge, made_waiting, is_made, Agrees, IsUntouched, IsMadeBy, IsStamped, IsDatasetOfCore, IsCore}
 use Rattle.zc_heart.specs.Meaning.{Commands}
-use Rattle.zc_heart.specs.Deeds.{said_of, unmade_on, cut_count, cut_on, with_file_changed, blocks_there, Becomes, IsLeft, ChangesFileAt, IsNoted, Puts, Cuts, Keeps}
+use Rattle.zc_heart.specs.Deeds.{said_of, unmade_on, trimmed_count, trimmed_on, with_file_changed, blocks_there, Becomes, IsLeft, ChangesFileAt, IsNoted, Puts, Cuts, Keeps}
 use Rattle.zc_heart.specs.Deeds.{PutBytes, SetSize}
 use Rattle.std.specs.Option.{option_map}
 use Rattle.zc_heart.proofs.Listing.{holds_there, holds_of_each, stands_in_map, found_by_number, FindsAt, FindsNone, finds, changed_by_number, changed_to}
 use Rattle.zc_heart.proofs.LogLaws.{changed_to_itself}
 use Rattle.zc_heart.proofs.Spots.{dataset_is, dataset_is_plain, files_ascend, IsAt, file_on_is}
-use Rattle.zc_heart.proofs.FileSteps.{Step, pool_behind_step, areas_behind_step, core_behind_step, leads_behind_step, knows_behind_step, agrees_behind_step, later_file}
+use Rattle.zc_heart.proofs.FileSteps.{Step, pool_after_step, areas_after_step, core_after_step, leads_after_step, knows_after_step, agrees_after_step, later_file}
 use Rattle.zc_heart.proofs.AnswerLaws.{changed_same}
 
 -- ---- what is found stands somewhere
@@ -137,12 +137,12 @@ module _ (spot : Spot) (change : PlainFile → PlainFile) (makes : ℕ → Bool)
   }
 
   pool_by_number : pool_of new ≡ in_dataset spot.place (with_file_changed spot.id change) (pool_of old)
-  pool_by_number = pool_behind_step spot change makes old new step ∙ changed_same (path_of_step spot change makes old new step) spot old is at_step change
+  pool_by_number = pool_after_step spot change makes old new step ∙ changed_same (path_of_step spot change makes old new step) spot old is at_step change
 
-  plain_behind : ((file : PlainFile) → (change file).id ≡ file.id) → ((file : PlainFile) → (change file).name ≡ file.name) → ((file : PlainFile) → IsPlainFile file → IsPlainFile (change file))
+  plain_later : ((file : PlainFile) → (change file).id ≡ file.id) → ((file : PlainFile) → (change file).name ≡ file.name) → ((file : PlainFile) → IsPlainFile file → IsPlainFile (change file))
       → ((file : PlainFile) → file.size ≤ most_bytes (pool_of old) → (change file).size ≤ most_bytes (pool_of old)) → IsPlain (pool_of new)
-  plain_behind keeps_id keeps_name keeps_plain keeps_short =
-      rw (pool_behind_step spot change makes old new step) (plain_in_file (path_of_step spot change makes old new step) change (pool_of old) keeps_id keeps_name keeps_plain keeps_short is.plain)
+  plain_later keeps_id keeps_name keeps_plain keeps_short =
+      rw (pool_after_step spot change makes old new step) (plain_in_file (path_of_step spot change makes old new step) change (pool_of old) keeps_id keeps_name keeps_plain keeps_short is.plain)
 
   dataset_id : (dataset_at spot.place (pool_of old)).id ≡ step.dataset.id
   dataset_id = ap (λ (d : PlainDataset). d.id) (dataset_is old spot.place step.dataset step.stands)
@@ -150,16 +150,16 @@ module _ (spot : Spot) (change : PlainFile → PlainFile) (makes : ℕ → Bool)
   unmade_there : (first count : ℕ) → unmade_on first count spot old ≡ unmade_in first count step.named.value
   unmade_there first count = ap (said_of 0 (unmade_in first count)) (file_on_is (path_of_step spot change makes old new step) spot old at_step)
 
-  few_behind : (more : ℕ) → new.made ≡ old.made + more → charge old + more ≤ most_charge (pool_of old) → made_waiting new + new.made ≤ 131072
-  few_behind more made fits = rw (step.waiting, made) (omega (arith, fits, old.limits.are_limits.few_places))
+  few_later : (more : ℕ) → new.made ≡ old.made + more → charge old + more ≤ most_charge (pool_of old) → made_waiting new + new.made ≤ 131072
+  few_later more made fits = rw (step.waiting, made) (omega (arith, fits, old.limits.are_limits.few_places))
 
   agrees_there : (tally : Tally) (first count : ℕ) → ((k : ℕ) → makes k ≡ is_within first (first + count) k) → new.made ≡ old.made + unmade_on first count spot old → Agrees tally old → Agrees (with_blocks (blocks_there tally first count spot old) tally) new
   agrees_there tally first count within more agrees =
       subst (λ (id : ℕ). Agrees (with_blocks (blocks_made tally id spot.id first count) tally) new) (sym dataset_id)
-      (agrees_behind_step spot change makes old new step tally first count is.plain within (more ∙ ap (λ (n : ℕ). old.made + n) (unmade_there first count)) agrees)
+      (agrees_after_step spot change makes old new step tally first count is.plain within (more ∙ ap (λ (n : ℕ). old.made + n) (unmade_there first count)) agrees)
 
-  commands_behind : Commands old new
-  commands_behind = record { leads = leads_behind_step spot change makes old new step; knows = knows_behind_step spot change makes old new step; group = step.group; waiting = step.waiting; limits = step.limits }
+  commands_after : Commands old new
+  commands_after = record { leads = leads_after_step spot change makes old new step; knows = knows_after_step spot change makes old new step; group = step.group; waiting = step.waiting; limits = step.limits }
 
 -- ---- a write
 
@@ -177,7 +177,7 @@ touches_within offset len k some =
     let some_first : nat_le first k ≡ true = le-leb first k from in
     ⊎_elim
     (λ (until : k < blocks_of_size (offset + len)). let inside : nat_lt k (blocks_of_size (offset + len)) ≡ true = lt-ltb k (blocks_of_size (offset + len)) until in rw (some_first, inside) (touched offset len k some from until))
-    (λ (behind : blocks_of_size (offset + len) ≤ k). let outside : nat_lt k (blocks_of_size (offset + len)) ≡ false = le-ltb k (blocks_of_size (offset + len)) behind in rw (some_first, outside) (untouched_behind offset len k behind))
+    (λ (behind : blocks_of_size (offset + len) ≤ k). let outside : nat_lt k (blocks_of_size (offset + len)) ≡ false = le-ltb k (blocks_of_size (offset + len)) behind in rw (some_first, outside) (untouched_after offset len k behind))
     (cases_lt k (blocks_of_size (offset + len))))
     (cases_lt k first))
 
@@ -225,8 +225,8 @@ not_missing spot datasets dataset noted stands missing = let both : true ≡ fal
     no_truth e = cc
 
 -- the dataset that was changed stands where it stood
-pub behind_stands : (spot : Spot) (Change : HeartFile → HeartFile → Type 0) (old new : List HeartDataset) (changes : ChangesFileAt spot Change old new) → StandsAt new spot.place changes.behind
-behind_stands spot Change old new changes =
+pub after_stands : (spot : Spot) (Change : HeartFile → HeartFile → Type 0) (old new : List HeartDataset) (changes : ChangesFileAt spot Change old new) → StandsAt new spot.place changes.behind
+after_stands spot Change old new changes =
     subst (λ (ds : List HeartDataset). StandsAt ds spot.place changes.behind)
     (sym (changes.datasets ∙ set_as_change_at (λ _. changes.behind) spot.place old changes.was changes.behind changes.there refl))
     (get_of_change_at (λ _. changes.behind) spot.place old ∙ ap (option_map (λ _. changes.behind)) changes.there)
@@ -236,14 +236,14 @@ abbrev pub with_changed : List HeartDataset → Stamps → (made last : ℕ) →
 with_changed datasets stamps made last core = record core { datasets = datasets; stamps = stamps; made = made; last = last }
 
 module _ (spot : Spot) (number offset : ℕ) (bytes : List ℕ) (datasets : List HeartDataset) (stamps : Stamps) (old : Core) (is : IsCore old) where
-  abbrev pub put_behind : Core
-  put_behind = with_changed datasets stamps (old.made + unmade_on (first_touched offset) (touched_count offset (length bytes)) spot old) number old
+  abbrev pub put_after : Core
+  put_after = with_changed datasets stamps (old.made + unmade_on (first_touched offset) (touched_count offset (length bytes)) spot old) number old
 
-  abbrev pub put_step : ChangesFileAt spot (Puts number offset bytes old.stamps stamps) old.datasets datasets → IsNoted spot datasets → Step spot (written number offset bytes) (touches offset (length bytes)) old put_behind
+  abbrev pub put_step : ChangesFileAt spot (Puts number offset bytes old.stamps stamps) old.datasets datasets → IsNoted spot datasets → Step spot (written number offset bytes) (touches offset (length bytes)) old put_after
   put_step changes noted =
-      step_of spot (written number offset bytes) (touches offset (length bytes)) (Puts number offset bytes old.stamps stamps) old put_behind is changes
+      step_of spot (written number offset bytes) (touches offset (length bytes)) (Puts number offset bytes old.stamps stamps) old put_after is changes
       (written_named number offset bytes changes.changes.was changes.changes.file changes.changes.change.0.file) changes.changes.change.0.marks changes.changes.change.1
-      (λ missing before. not_missing spot datasets changes.behind noted (behind_stands spot (Puts number offset bytes old.stamps stamps) old.datasets datasets changes) missing)
+      (λ missing before. not_missing spot datasets changes.behind noted (after_stands spot (Puts number offset bytes old.stamps stamps) old.datasets datasets changes) missing)
       refl refl refl refl refl refl
 
   put_made_by : (changes : ChangesFileAt spot (Puts number offset bytes old.stamps stamps) old.datasets datasets) → old.last ≤ number → (at : ℕ) → StandsAt changes.was.files at changes.changes.was → AllByRecursion (IsMadeBy number) (plain_blocks changes.changes.file)
@@ -253,39 +253,39 @@ module _ (spot : Spot) (number offset : ℕ) (bytes : List ℕ) (datasets : List
       written_made number offset bytes changes.changes.was.value changes.changes.file changes.changes.change.0.file (later_file old.last number later (plain_file changes.changes.was) file)
 
   pub becomes_put : ChangesFileAt spot (Puts number offset bytes old.stamps stamps) old.datasets datasets → IsNoted spot datasets → old.last < number → 0 < length bytes → offset + length bytes ≤ most_bytes (pool_of old)
-      → charge old + unmade_on (first_touched offset) (touched_count offset (length bytes)) spot old ≤ most_charge (pool_of old) → Becomes (PutBytes number spot offset bytes) old put_behind
+      → charge old + unmade_on (first_touched offset) (touched_count offset (length bytes)) spot old ≤ most_charge (pool_of old) → Becomes (PutBytes number spot offset bytes) old put_after
   becomes_put changes noted later some ends fits =
       let step = put_step changes noted in
       let found = found_stands (is_numbered spot.id) changes.was.files changes.changes.was changes.changes.there in
       record {
-        is = core_behind_step spot (written number offset bytes) (touches offset (length bytes)) old put_behind step
-            (plain_behind spot (written number offset bytes) (touches offset (length bytes)) old put_behind step is (id_of_written number offset bytes) (name_of_written number offset bytes) (plain_once_written number offset bytes)
+        is = core_after_step spot (written number offset bytes) (touches offset (length bytes)) old put_after step
+            (plain_later spot (written number offset bytes) (touches offset (length bytes)) old put_after step is (id_of_written number offset bytes) (name_of_written number offset bytes) (plain_once_written number offset bytes)
             (λ file short. short_once_written (most_bytes (pool_of old)) number offset bytes file short ends))
             is.held
-            (few_behind spot (written number offset bytes) (touches offset (length bytes)) old put_behind step is (unmade_on (first_touched offset) (touched_count offset (length bytes)) spot old) refl fits)
+            (few_later spot (written number offset bytes) (touches offset (length bytes)) old put_after step is (unmade_on (first_touched offset) (touched_count offset (length bytes)) spot old) refl fits)
             (omega (arith, later)) (put_made_by changes (omega (arith, later)) found.at found.there) is;
-        pool = pool_by_number spot (written number offset bytes) (touches offset (length bytes)) old put_behind step is;
-        agrees = λ tally agrees. agrees_there spot (written number offset bytes) (touches offset (length bytes)) old put_behind step is tally (first_touched offset) (touched_count offset (length bytes))
+        pool = pool_by_number spot (written number offset bytes) (touches offset (length bytes)) old put_after step is;
+        agrees = λ tally agrees. agrees_there spot (written number offset bytes) (touches offset (length bytes)) old put_after step is tally (first_touched offset) (touched_count offset (length bytes))
             (λ k. touches_within offset (length bytes) k some) refl agrees;
-        commands = commands_behind spot (written number offset bytes) (touches offset (length bytes)) old put_behind step is;
+        commands = commands_after spot (written number offset bytes) (touches offset (length bytes)) old put_after step is;
         last = refl;
       }
 
 -- ---- a truncation
 
--- which block is cut
-cut_within : (old size : ℕ) (blocks : List PlainBlock) (k : ℕ) → is_cut old size blocks k ≡ is_within (size / 4096) (size / 4096 + (if is_cut old size blocks (size / 4096) then 1 else 0)) k
-cut_within old size blocks k =
+-- which block is trimmed
+trimmed_within : (old size : ℕ) (blocks : List PlainBlock) (k : ℕ) → is_trimmed old size blocks k ≡ is_within (size / 4096) (size / 4096 + (if is_trimmed old size blocks (size / 4096) then 1 else 0)) k
+trimmed_within old size blocks k =
     ⊎_elim
     (λ (here : k ≡ size / 4096).
     let at_first : nat_le (size / 4096) k ≡ true = le-leb (size / 4096) k (omega (arith, here)) in
-    subst (λ (n : ℕ). is_cut old size blocks n ≡ is_within (size / 4096) (size / 4096 + (if is_cut old size blocks (size / 4096) then 1 else 0)) n) (sym here) (at_place (is_cut old size blocks (size / 4096)) refl))
+    subst (λ (n : ℕ). is_trimmed old size blocks n ≡ is_within (size / 4096) (size / 4096 + (if is_trimmed old size blocks (size / 4096) then 1 else 0)) n) (sym here) (at_place (is_trimmed old size blocks (size / 4096)) refl))
     (λ (apart : k ≢ size / 4096).
-    let not_cut : is_cut old size blocks k ≡ false = elsewhere apart in
-    rw not_cut (sym (no_other (is_cut old size blocks (size / 4096)) apart)))
+    let not_trimmed : is_trimmed old size blocks k ≡ false = elsewhere apart in
+    rw not_trimmed (sym (no_other (is_trimmed old size blocks (size / 4096)) apart)))
     (cases_eq k (size / 4096))
   where
-    at_place : (cut : Bool) → is_cut old size blocks (size / 4096) ≡ cut → is_cut old size blocks (size / 4096) ≡ is_within (size / 4096) (size / 4096 + (if cut then 1 else 0)) (size / 4096)
+    at_place : (trimmed : Bool) → is_trimmed old size blocks (size / 4096) ≡ trimmed → is_trimmed old size blocks (size / 4096) ≡ is_within (size / 4096) (size / 4096 + (if trimmed then 1 else 0)) (size / 4096)
     at_place true is =
         let first : nat_le (size / 4096) (size / 4096) ≡ true = le-leb (size / 4096) (size / 4096) (omega arith) in
         let inside : nat_lt (size / 4096) (size / 4096 + 1) ≡ true = lt-ltb (size / 4096) (size / 4096 + 1) (omega arith) in
@@ -295,7 +295,7 @@ cut_within old size blocks k =
         let outside : nat_lt (size / 4096) (size / 4096 + 0) ≡ false = le-ltb (size / 4096) (size / 4096 + 0) (omega arith) in
         is ∙ sym (rw (first, outside) refl)
 
-    no_other : (cut : Bool) → k ≢ size / 4096 → is_within (size / 4096) (size / 4096 + (if cut then 1 else 0)) k ≡ false
+    no_other : (trimmed : Bool) → k ≢ size / 4096 → is_within (size / 4096) (size / 4096 + (if trimmed then 1 else 0)) k ≡ false
     no_other true apart =
         ⊎_elim
         (λ (before : k < size / 4096). let none : nat_le (size / 4096) k ≡ false = lt-leb (size / 4096) k before in rw none refl)
@@ -313,18 +313,18 @@ cut_within old size blocks k =
         rw (first, outside) refl)
         (cases_lt k (size / 4096))
 
-    elsewhere : k ≢ size / 4096 → is_cut old size blocks k ≡ false
+    elsewhere : k ≢ size / 4096 → is_trimmed old size blocks k ≡ false
     elsewhere apart =
         ⊎_elim
-        (λ (cut : is_cut old size blocks k ≡ true).
-        let parts = and_parts (nat_lt size old) _ cut in
+        (λ (trimmed : is_trimmed old size blocks k ≡ true).
+        let parts = and_parts (nat_lt size old) _ trimmed in
         let inside = and_parts (is_inside size k) _ parts.1 in
         let ends = and_parts (nat_lt (k * 4096) size) _ inside.0 in
         let from = ltb-true (k * 4096) size ends.0 in
         let until = ltb-true size (k * 4096 + 4096) ends.1 in
         absurd (omega (arith, apart, from, until)))
-        (λ (whole : is_cut old size blocks k ≡ false). whole)
-        (cases_Bool (is_cut old size blocks k))
+        (λ (whole : is_trimmed old size blocks k ≡ false). whole)
+        (cases_Bool (is_trimmed old size blocks k))
 
 pub truncated_named : (number size : ℕ) (named : Named HeartFile) (file : HeartFile) → bare file ≡ truncated number size (bare named.value) → plain_file (with_value file named) ≡ truncated number size (plain_file named)
 unfolding truncated
@@ -333,12 +333,12 @@ truncated_named number size named file is =
     ∙ ap (λ (blocks : List PlainBlock). record { id = named.id; name = named.name; size = size; blocks = blocks }) (ap (λ (f : PlainFile). f.blocks) is)
 
 truncated_made_by : (number old size : ℕ) (blocks : List PlainBlock) (k : ℕ) → AllByRecursion (IsMadeBy number) blocks → IsMadeBy number (truncated_block number old size blocks k)
-unfolding truncated_block cut_block
+unfolding truncated_block trimmed_block
 truncated_made_by number old size blocks k are =
     ⊎_elim
-    (λ (here : is_cut old size blocks k ≡ true). rw here (omega arith))
-    (λ (beside : is_cut old size blocks k ≡ false). rw beside (block_made_by number blocks k are))
-    (cases_Bool (is_cut old size blocks k))
+    (λ (here : is_trimmed old size blocks k ≡ true). rw here (omega arith))
+    (λ (beside : is_trimmed old size blocks k ≡ false). rw beside (block_made_by number blocks k are))
+    (cases_Bool (is_trimmed old size blocks k))
 
 truncated_made : (number size : ℕ) (was file : HeartFile) → bare file ≡ truncated number size (bare was) → AllByRecursion (IsMadeBy number) (plain_blocks was) → AllByRecursion (IsMadeBy number) (plain_blocks file)
 unfolding truncated
@@ -348,42 +348,42 @@ truncated_made number size was file is are =
 
 module _ (spot : Spot) (number size : ℕ) (datasets : List HeartDataset) (stamps : Stamps) (old : Core) (is : IsCore old)
     (changes : ChangesFileAt spot (Cuts number size old.stamps stamps) old.datasets datasets) where
-  abbrev pub cut_behind : Core
-  cut_behind = with_changed datasets stamps (old.made + unmade_on (size / 4096) (cut_on size spot old) spot old) number old
+  abbrev pub trimmed_after : Core
+  trimmed_after = with_changed datasets stamps (old.made + unmade_on (size / 4096) (trimmed_on size spot old) spot old) number old
 
-  abbrev pub cuts : ℕ → Bool
-  cuts = is_cut changes.changes.was.value.size size (plain_blocks changes.changes.was.value)
+  abbrev pub trims : ℕ → Bool
+  trims = is_trimmed changes.changes.was.value.size size (plain_blocks changes.changes.was.value)
 
-  abbrev pub cut_step : IsNoted spot datasets → Step spot (truncated number size) cuts old cut_behind
-  cut_step noted =
-      step_of spot (truncated number size) cuts (Cuts number size old.stamps stamps) old cut_behind is changes
+  abbrev pub trimmed_step : IsNoted spot datasets → Step spot (truncated number size) trims old trimmed_after
+  trimmed_step noted =
+      step_of spot (truncated number size) trims (Cuts number size old.stamps stamps) old trimmed_after is changes
       (truncated_named number size changes.changes.was changes.changes.file changes.changes.change.0.file) changes.changes.change.0.marks changes.changes.change.1
-      (λ missing before. not_missing spot datasets changes.behind noted (behind_stands spot (Cuts number size old.stamps stamps) old.datasets datasets changes) missing)
+      (λ missing before. not_missing spot datasets changes.behind noted (after_stands spot (Cuts number size old.stamps stamps) old.datasets datasets changes) missing)
       refl refl refl refl refl refl
 
-  cut_made_by : old.last ≤ number → (at : ℕ) → StandsAt changes.was.files at changes.changes.was → AllByRecursion (IsMadeBy number) (plain_blocks changes.changes.file)
-  cut_made_by later at there =
+  trimmed_made_by : old.last ≤ number → (at : ℕ) → StandsAt changes.was.files at changes.changes.was → AllByRecursion (IsMadeBy number) (plain_blocks changes.changes.file)
+  trimmed_made_by later at there =
       let stamped = holds_there (IsStamped old.last) (map plain_dataset old.datasets) spot.place (plain_dataset changes.was) is.stamped (stands_in_map plain_dataset old.datasets spot.place changes.was changes.there) in
       let file = holds_there (λ (f : PlainFile). AllByRecursion (IsMadeBy old.last) f.blocks) (map plain_file changes.was.files) at (plain_file changes.changes.was) stamped (stands_in_map plain_file changes.was.files at changes.changes.was there) in
       truncated_made number size changes.changes.was.value changes.changes.file changes.changes.change.0.file (later_file old.last number later (plain_file changes.changes.was) file)
 
-  pub becomes_cut : IsNoted spot datasets → old.last < number → size ≤ most_bytes (pool_of old) → charge old + unmade_on (size / 4096) (cut_on size spot old) spot old ≤ most_charge (pool_of old) → Becomes (SetSize number spot size) old cut_behind
-  becomes_cut noted later ends fits =
-      let step = cut_step noted in
+  pub becomes_trimmed : IsNoted spot datasets → old.last < number → size ≤ most_bytes (pool_of old) → charge old + unmade_on (size / 4096) (trimmed_on size spot old) spot old ≤ most_charge (pool_of old) → Becomes (SetSize number spot size) old trimmed_after
+  becomes_trimmed noted later ends fits =
+      let step = trimmed_step noted in
       let found = found_stands (is_numbered spot.id) changes.was.files changes.changes.was changes.changes.there in
-      let count : cut_on size spot old ≡ cut_count size changes.changes.was.value =
-      ap (said_of 0 (cut_count size)) (file_on_is (path_of_step spot (truncated number size) cuts old cut_behind step) spot old (at_step spot (truncated number size) cuts old cut_behind step is)) in
+      let count : trimmed_on size spot old ≡ trimmed_count size changes.changes.was.value =
+      ap (said_of 0 (trimmed_count size)) (file_on_is (path_of_step spot (truncated number size) trims old trimmed_after step) spot old (at_step spot (truncated number size) trims old trimmed_after step is)) in
       record {
-        is = core_behind_step spot (truncated number size) cuts old cut_behind step
-            (plain_behind spot (truncated number size) cuts old cut_behind step is (id_of_truncated number size) (name_of_truncated number size) (plain_once_truncated number size)
+        is = core_after_step spot (truncated number size) trims old trimmed_after step
+            (plain_later spot (truncated number size) trims old trimmed_after step is (id_of_truncated number size) (name_of_truncated number size) (plain_once_truncated number size)
             (λ file short. short_once_truncated (most_bytes (pool_of old)) number size file ends))
             is.held
-            (few_behind spot (truncated number size) cuts old cut_behind step is (unmade_on (size / 4096) (cut_on size spot old) spot old) refl fits)
-            (omega (arith, later)) (cut_made_by (omega (arith, later)) found.at found.there) is;
-        pool = pool_by_number spot (truncated number size) cuts old cut_behind step is;
-        agrees = λ tally agrees. agrees_there spot (truncated number size) cuts old cut_behind step is tally (size / 4096) (cut_on size spot old)
-            (λ k. cut_within changes.changes.was.value.size size (plain_blocks changes.changes.was.value) k ∙ ap (λ (n : ℕ). is_within (size / 4096) (size / 4096 + n) k) (sym count)) refl agrees;
-        commands = commands_behind spot (truncated number size) cuts old cut_behind step is;
+            (few_later spot (truncated number size) trims old trimmed_after step is (unmade_on (size / 4096) (trimmed_on size spot old) spot old) refl fits)
+            (omega (arith, later)) (trimmed_made_by (omega (arith, later)) found.at found.there) is;
+        pool = pool_by_number spot (truncated number size) trims old trimmed_after step is;
+        agrees = λ tally agrees. agrees_there spot (truncated number size) trims old trimmed_after step is tally (size / 4096) (trimmed_on size spot old)
+            (λ k. trimmed_within changes.changes.was.value.size size (plain_blocks changes.changes.was.value) k ∙ ap (λ (n : ℕ). is_within (size / 4096) (size / 4096 + n) k) (sym count)) refl agrees;
+        commands = commands_after spot (truncated number size) trims old trimmed_after step is;
         last = refl;
       }
 
@@ -422,22 +422,22 @@ abbrev pub with_room : List HeartDataset → Stamps → Core → Core
 with_room datasets stamps core = record core { datasets = datasets; stamps = stamps }
 
 module _ (spot : Spot) (datasets : List HeartDataset) (stamps : Stamps) (old : Core) (is : IsCore old) (changes : ChangesFileAt spot (Keeps old.stamps stamps) old.datasets datasets) where
-  abbrev pub room_behind : Core
-  room_behind = with_room datasets stamps old
+  abbrev pub room_after : Core
+  room_after = with_room datasets stamps old
 
-  abbrev pub room_step : Step spot (λ file. file) (λ _. false) old room_behind
+  abbrev pub room_step : Step spot (λ file. file) (λ _. false) old room_after
   room_step =
       let stays = changes.changes.change.0 in
-      step_of spot (λ file. file) (λ _. false) (Keeps old.stamps stamps) old room_behind is changes
+      step_of spot (λ file. file) (λ _. false) (Keeps old.stamps stamps) old room_after is changes
       (stays_named changes.changes.was changes.changes.file stays.file)
       (stays_marked changes.changes.was.value changes.changes.file stays)
       (stays_counted old.stamps stamps changes.changes.was.value changes.changes.file stays changes.changes.change.1)
       (λ missing before. let was = before (changes.changes.noted spot.id missing) in (stays.sized ∙ was.0, λ k. stays.touched k ∙ was.1 k))
       refl refl refl refl refl refl
 
-  room_pool : pool_of room_behind ≡ pool_of old
+  room_pool : pool_of room_after ≡ pool_of old
   room_pool =
-      pool_behind_step spot (λ file. file) (λ _. false) old room_behind room_step
+      pool_after_step spot (λ file. file) (λ _. false) old room_after room_step
       ∙ ap (λ (ds : List PlainDataset). record { limits = old.limits; next_dataset = old.next_dataset; datasets = ds })
       (changed_to_same (in_files room_step.at (λ file. file)) spot.place (map plain_dataset old.datasets)
       (λ d. ap (λ (files : List PlainFile). record { id = d.id; name = d.name; next_file = d.next_file; files = files }) (changed_to_itself room_step.at d.files)))
@@ -450,11 +450,11 @@ module _ (spot : Spot) (datasets : List HeartDataset) (stamps : Stamps) (old : C
       subst (AllByRecursion (IsMadeBy old.last)) (sym (ap (λ (f : PlainFile). f.blocks) changes.changes.change.0.file)) file
 
   -- no block more is made
-  room_agrees : (tally : Tally) → Agrees tally old → Agrees tally room_behind
+  room_agrees : (tally : Tally) → Agrees tally old → Agrees tally room_after
   room_agrees tally agrees =
       let none : unmade_in 0 0 room_step.named.value ≡ 0 = ap (count_by (λ (made : Bool). not made)) (each_none (λ k. is_made (0 + k) room_step.named.value)) in
-      let behind = agrees_behind_step spot (λ file. file) (λ _. false) old room_behind room_step tally 0 0 is.plain (λ k. none_within k) (omega (arith, none)) agrees in
-      subst (λ (made : List MadeBlock). Agrees (record tally { made = made }) room_behind)
+      let behind = agrees_after_step spot (λ file. file) (λ _. false) old room_after room_step tally 0 0 is.plain (λ k. none_within k) (omega (arith, none)) agrees in
+      subst (λ (made : List MadeBlock). Agrees (record tally { made = made }) room_after)
       (ap (with_each is_block tally.made) (each_none (λ k. block_made tally room_step.dataset.id spot.id (0 + k))) ∙ added_none is_block tally.made) behind
     where
       none_within : (k : ℕ) → false ≡ is_within 0 (0 + 0) k
@@ -464,15 +464,15 @@ module _ (spot : Spot) (datasets : List HeartDataset) (stamps : Stamps) (old : C
           and_none true = refl
           and_none false = refl
 
-  pub left_with_room : IsLeft old room_behind
+  pub left_with_room : IsLeft old room_after
   left_with_room = record {
-    is = core_behind_step spot (λ file. file) (λ _. false) old room_behind room_step (rw room_pool is.plain) is.held is.few (omega arith) room_made_by is;
+    is = core_after_step spot (λ file. file) (λ _. false) old room_after room_step (rw room_pool is.plain) is.held is.few (omega arith) room_made_by is;
     stays = record {
       pool = room_pool;
-      areas = areas_behind_step spot (λ file. file) (λ _. false) old room_behind room_step;
+      areas = areas_after_step spot (λ file. file) (λ _. false) old room_after room_step;
       agrees = room_agrees;
-      leads = leads_behind_step spot (λ file. file) (λ _. false) old room_behind room_step;
-      knows = knows_behind_step spot (λ file. file) (λ _. false) old room_behind room_step;
+      leads = leads_after_step spot (λ file. file) (λ _. false) old room_after room_step;
+      knows = knows_after_step spot (λ file. file) (λ _. false) old room_after room_step;
       group = refl;
       waiting = refl;
       last = refl;

@@ -32,7 +32,7 @@ use Rattle.zc_heart.specs.Steps.{is_within}
 use Rattle.zc_heart.specs.Core.{plain_file, plain_dataset, plain_blocks, pool_of, areas_of, is_made, AreMade, made_now, made_waiting, Agrees, Base, IsBefore, AreBefore, AreDatasetsBefore, Leads, Knows, IsUntouched, IsHeartFile, IsMadeBy, IsStamped, AreApart, IsDatasetOfCore, IsCore}
 use Rattle.zc_heart.proofs.Listing.{holds_there, holds_of_each, stands_in_map, stood_in_map, Ascend, map_changed_there, sum_changed, sum_mapped}
 use Rattle.zc_heart.proofs.Counting.{count_in, count_of, counted_in_core, counted_in_files}
-use Rattle.zc_heart.proofs.Charged.{block_of, is_among, any_more, fresh, length_more, behind_more, all_more}
+use Rattle.zc_heart.proofs.Charged.{block_of, is_among, any_more, fresh, length_more, after_more, all_more}
 use Rattle.zc_heart.proofs.LogLaws.{IsDatasetBefore, files_before_changed, datasets_before_changed, changed_to_itself}
 use Rattle.zc_heart.proofs.Spots.{files_ascend, datasets_ascend, dataset_is_plain}
 
@@ -88,7 +88,7 @@ apart_by_number number_of xs a b x y ascend first second apart same =
     absurd (omega (arith, ascend b a y x behind second first, same)))
     (cases_lt a b)
 
--- a later command is behind more
+-- a later command is after more
 later_block : (last later : ℕ) → last ≤ later → (block : PlainBlock) → IsMadeBy last block → IsMadeBy later block
 later_block last later behind Hole is = tt
 later_block last later behind (Made entry index bytes) is = omega (arith, is)
@@ -112,25 +112,25 @@ none_among : (a : Bool) → (a && false) ≡ false
 none_among true = refl
 none_among false = refl
 
--- what was made behind each seal, with the blocks that are made now
+-- what was made after each seal, with the blocks that are made now
 made_more : (made : List MadeBlock) (seals dataset file first count s : ℕ) (waiting : List WaitingGroup) (current : ℕ) → s + length waiting ≡ seals → AreMade s waiting current made
     → AreMade s waiting (current + fresh made seals dataset file first count) (with_each is_block made (each count (λ k. block_of seals dataset file (first + k))))
 made_more made seals dataset file first count s [] current ends are =
     let here : (seals == s) ≡ true = eq-eqb seals s (omega (arith, ends)) in
-    let more = behind_more made seals dataset file first count s in
+    let more = after_more made seals dataset file first count s in
     let all = rw here at more in
     omega (arith, all, are)
 made_more made seals dataset file first count s (one ∷ waiting) current ends are =
     let other : (seals == s) ≡ false = ne_eqb seals s (omega (arith, ends)) in
-    let more = behind_more made seals dataset file first count s in
+    let more = after_more made seals dataset file first count s in
     let none = rw other at more in
     (omega (arith, none, are.0), made_more made seals dataset file first count (s + 1) waiting current (omega (arith, ends)) are.1)
 
 -- ---- what it stands for
 
 module _ (spot : Spot) (change : PlainFile → PlainFile) (makes : ℕ → Bool) (old new : Core) (step : Step spot change makes old new) where
-  dataset_behind : plain_dataset step.behind ≡ in_files step.at change (plain_dataset step.dataset)
-  dataset_behind =
+  dataset_after : plain_dataset step.behind ≡ in_files step.at change (plain_dataset step.dataset)
+  dataset_after =
       let files : map plain_file step.behind.files ≡ change_at change step.at (map plain_file step.dataset.files) =
       ap (map plain_file) step.files
       ∙ map_changed_there plain_file (λ _. with_value step.file step.named) change step.at step.dataset.files
@@ -141,19 +141,19 @@ module _ (spot : Spot) (change : PlainFile → PlainFile) (makes : ℕ → Bool)
       ∙ ap (λ (n : ℕ). record { id = step.dataset.id; name = step.dataset.name; next_file = n; files = map plain_file step.behind.files }) step.next_file
       ∙ ap (λ (fs : List PlainFile). record { id = step.dataset.id; name = step.dataset.name; next_file = step.dataset.next_file; files = fs }) files
 
-  pub pool_behind_step : pool_of new ≡ in_dataset spot.place (in_files step.at change) (pool_of old)
-  pool_behind_step =
+  pub pool_after_step : pool_of new ≡ in_dataset spot.place (in_files step.at change) (pool_of old)
+  pool_after_step =
       let datasets : map plain_dataset new.datasets ≡ change_at (in_files step.at change) spot.place (map plain_dataset old.datasets) =
       ap (map plain_dataset) step.datasets
       ∙ map_changed_there plain_dataset (λ _. step.behind) (in_files step.at change) spot.place old.datasets
-      (λ x stands. dataset_behind ∙ ap (λ (d : HeartDataset). in_files step.at change (plain_dataset d)) (one_item step.dataset x (sym step.stands ∙ stands)))
+      (λ x stands. dataset_after ∙ ap (λ (d : HeartDataset). in_files step.at change (plain_dataset d)) (one_item step.dataset x (sym step.stands ∙ stands)))
       in
       ap (λ (l : Limits). record { limits = l; next_dataset = new.next_dataset; datasets = map plain_dataset new.datasets }) step.limits
       ∙ ap (λ (n : ℕ). record { limits = old.limits; next_dataset = n; datasets = map plain_dataset new.datasets }) step.next_dataset
       ∙ ap (λ (ds : List PlainDataset). record { limits = old.limits; next_dataset = old.next_dataset; datasets = ds }) datasets
 
-  pub areas_behind_step : areas_of new ≡ areas_of old
-  areas_behind_step =
+  pub areas_after_step : areas_of new ≡ areas_of old
+  areas_after_step =
       ap (map (λ (d : HeartDataset). d.area)) step.datasets
       ∙ map_changed_there (λ (d : HeartDataset). d.area) (λ _. step.behind) (λ n. n) spot.place old.datasets
       (λ x stands. step.area ∙ ap (λ (d : HeartDataset). d.area) (one_item step.dataset x (sym step.stands ∙ stands)))
@@ -161,22 +161,22 @@ module _ (spot : Spot) (change : PlainFile → PlainFile) (makes : ℕ → Bool)
 
   -- ---- what is kept beside the files
 
-  counted_behind_step : AreCounted old.stamps (stamps_of (pool_of old)) → AreCounted new.stamps (stamps_of (pool_of new))
-  counted_behind_step counted =
+  counted_after_step : AreCounted old.stamps (stamps_of (pool_of old)) → AreCounted new.stamps (stamps_of (pool_of new))
+  counted_after_step counted =
       λ stamp.
       let file_sum = sum_changed (count_of stamp) (with_value step.file step.named) step.at step.dataset.files step.named step.there in
       let files = counted_in_files stamp step.dataset.files in
-      let files_behind = counted_in_files stamp step.behind.files ∙ ap (sum_by (count_of stamp)) step.files in
+      let files_later = counted_in_files stamp step.behind.files ∙ ap (sum_by (count_of stamp)) step.files in
       let sum = sum_changed (count_in stamp) step.behind spot.place old.datasets step.dataset step.stands in
       let before = counted stamp ∙ counted_in_core stamp old in
       let behind = counted_in_core stamp new ∙ ap (sum_by (count_in stamp)) step.datasets in
       let moved = step.counts.moves stamp in
-      omega (arith, file_sum, files, files_behind, sum, before, behind, moved)
+      omega (arith, file_sum, files, files_later, sum, before, behind, moved)
 
   -- the dataset
-  pointers_behind_step : step.dataset.pointers ≡ pointers_in (plain_dataset step.dataset) → IsHeartFile step.named.value → step.behind.pointers ≡ pointers_in (plain_dataset step.behind)
+  pointers_after_step : step.dataset.pointers ≡ pointers_in (plain_dataset step.dataset) → IsHeartFile step.named.value → step.behind.pointers ≡ pointers_in (plain_dataset step.behind)
   unfolding pointers_in
-  pointers_behind_step before was =
+  pointers_after_step before was =
       let g = λ (n : Named HeartFile). made_count (plain_blocks n.value) in
       let sum = sum_changed g (with_value step.file step.named) step.at step.dataset.files step.named step.there in
       let old_sum = sum_mapped (λ (f : PlainFile). made_count f.blocks) plain_file step.dataset.files in
@@ -186,7 +186,7 @@ module _ (spot : Spot) (change : PlainFile → PlainFile) (makes : ℕ → Bool)
   dataset_of_step : (most most_size : ℕ) → IsPlainDataset most most_size (plain_dataset step.dataset) → IsDatasetOfCore step.dataset → IsDatasetOfCore step.behind
   dataset_of_step most most_size plain is = record {
     area = rw step.area is.area;
-    pointers = pointers_behind_step is.pointers (holds_there (λ (n : Named HeartFile). IsHeartFile n.value) step.dataset.files step.at step.named is.files step.there);
+    pointers = pointers_after_step is.pointers (holds_there (λ (n : Named HeartFile). IsHeartFile n.value) step.dataset.files step.at step.named is.files step.there);
     listed = holds_of_each (λ (n : Named HeartFile). holds_number n.id step.behind.changed ≡ false → IsUntouched n) step.behind.files
         (λ at n stands. ⊎_elim
         (λ (other : (at ≢ step.at) × StandsAt step.dataset.files at n).
@@ -202,8 +202,8 @@ module _ (spot : Spot) (change : PlainFile → PlainFile) (makes : ℕ → Bool)
         (stands_changed (with_value step.file step.named) step.at step.dataset.files at n (subst (λ (fs : List (Named HeartFile)). StandsAt fs at n) step.files stands)));
   }
 
-  datasets_behind_step : IsPlain (pool_of old) → AllByRecursion IsDatasetOfCore old.datasets → AllByRecursion IsDatasetOfCore new.datasets
-  datasets_behind_step plain are =
+  datasets_after_step : IsPlain (pool_of old) → AllByRecursion IsDatasetOfCore old.datasets → AllByRecursion IsDatasetOfCore new.datasets
+  datasets_after_step plain are =
       holds_of_each IsDatasetOfCore new.datasets
       (λ at d stands. ⊎_elim
       (λ (other : (at ≢ spot.place) × StandsAt old.datasets at d). holds_there IsDatasetOfCore old.datasets at d are other.1)
@@ -213,8 +213,8 @@ module _ (spot : Spot) (change : PlainFile → PlainFile) (makes : ℕ → Bool)
       (stands_changed step.behind spot.place old.datasets at d (subst (λ (ds : List HeartDataset). StandsAt ds at d) step.datasets stands)))
 
   -- which commands made the blocks
-  stamped_behind_step : (last : ℕ) → old.last ≤ last → AllByRecursion (IsMadeBy last) (plain_blocks step.file) → AllByRecursion (IsStamped old.last) (pool_of old).datasets → AllByRecursion (IsStamped last) (pool_of new).datasets
-  stamped_behind_step last later made stamped =
+  stamped_after_step : (last : ℕ) → old.last ≤ last → AllByRecursion (IsMadeBy last) (plain_blocks step.file) → AllByRecursion (IsStamped old.last) (pool_of old).datasets → AllByRecursion (IsStamped last) (pool_of new).datasets
+  stamped_after_step last later made stamped =
       holds_of_each (IsStamped last) (map plain_dataset new.datasets)
       (λ place d stands.
       let from = stood_in_map plain_dataset new.datasets place d stands in
@@ -243,13 +243,13 @@ module _ (spot : Spot) (change : PlainFile → PlainFile) (makes : ℕ → Bool)
           (stands_changed (with_value step.file step.named) step.at step.dataset.files at from.0 (subst (λ (fs : List (Named HeartFile)). StandsAt fs at from.0) step.files from.1))))
 
   -- so it is a heart again
-  pub core_behind_step : IsPlain (pool_of new) → new.held ≤ 2 ^ 62 → made_waiting new + new.made ≤ 131072 → old.last ≤ new.last → AllByRecursion (IsMadeBy new.last) (plain_blocks step.file) → IsCore old → IsCore new
-  core_behind_step plain held few later made is = record {
+  pub core_after_step : IsPlain (pool_of new) → new.held ≤ 2 ^ 62 → made_waiting new + new.made ≤ 131072 → old.last ≤ new.last → AllByRecursion (IsMadeBy new.last) (plain_blocks step.file) → IsCore old → IsCore new
+  core_after_step plain held few later made is = record {
     plain = plain;
-    datasets = datasets_behind_step is.plain is.datasets;
-    apart = subst AreApart (sym areas_behind_step) is.apart;
-    counted = counted_behind_step is.counted;
-    stamped = stamped_behind_step new.last later made is.stamped;
+    datasets = datasets_after_step is.plain is.datasets;
+    apart = subst AreApart (sym areas_after_step) is.apart;
+    counted = counted_after_step is.counted;
+    stamped = stamped_after_step new.last later made is.stamped;
     logged = rw step.log is.logged;
     held = held;
     few = few;
@@ -257,14 +257,14 @@ module _ (spot : Spot) (change : PlainFile → PlainFile) (makes : ℕ → Bool)
 
   -- ---- what its log leads to, and what it knows
 
-  pub leads_behind_step : (base : Base) → Leads base old → Leads base new
-  leads_behind_step base leads = record {
+  pub leads_after_step : (base : Base) → Leads base old → Leads base new
+  leads_after_step base leads = record {
     before = leads.before;
     next_dataset = leads.next_dataset ∙ sym step.next_dataset;
     datasets = subst (AreDatasetsBefore leads.before.datasets) (sym step.datasets)
         (subst (λ (befores : List PlainDataset). AreDatasetsBefore befores (change_at (λ _. step.behind) spot.place old.datasets)) (changed_to_itself spot.place leads.before.datasets)
         (datasets_before_changed (λ before. before) leads.before.datasets old.datasets spot.place step.dataset step.behind step.stands dataset_before_step leads.datasets));
-    made = λ group placing. rw (step.log, areas_behind_step) (leads.made group placing);
+    made = λ group placing. rw (step.log, areas_after_step) (leads.made group placing);
   }
     where
       file_before_step : (before : PlainFile) → IsBefore before step.named → IsBefore before (with_value step.file step.named)
@@ -283,8 +283,8 @@ module _ (spot : Spot) (change : PlainFile → PlainFile) (makes : ℕ → Bool)
         subst (AreBefore before.files) (sym step.files) (files_before_changed before.files step.dataset.files step.at step.named (with_value step.file step.named) step.there file_before_step is.3),
       )
 
-  pub knows_behind_step : (placing : Where) → Knows placing old → Knows placing new
-  knows_behind_step placing knows = λ entry index ptr is. knows entry index ptr (step.counts.learns (entry, index) ptr is)
+  pub knows_after_step : (placing : Where) → Knows placing old → Knows placing new
+  knows_after_step placing knows = λ entry index ptr is. knows entry index ptr (step.counts.learns (entry, index) ptr is)
 
   -- ---- what the charge is counted from
 
@@ -306,9 +306,9 @@ module _ (spot : Spot) (change : PlainFile → PlainFile) (makes : ℕ → Bool)
       subst (λ (n : ℕ). n < step.dataset.next_file) step.numbered (is.numbered.below_next step.at (plain_file step.named) (stands_in_map plain_file step.dataset.files step.at step.named step.there))
 
   -- the block was made now, where it was before or is one of the new ones
-  made_now_behind : (tally : Tally) (first count d f k : ℕ)
+  made_now_after : (tally : Tally) (first count d f k : ℕ)
       → made_now (with_blocks (blocks_made tally step.dataset.id spot.id first count) tally) d f k ≡ (made_now tally d f k || is_among step.dataset.id spot.id first count d f k)
-  made_now_behind tally first count d f k = any_more tally.made (length tally.sealed) step.dataset.id spot.id first count d f k
+  made_now_after tally first count d f k = any_more tally.made (length tally.sealed) step.dataset.id spot.id first count d f k
 
   unmade_is : (tally : Tally) (first count : ℕ) → Agrees tally old → fresh tally.made (length tally.sealed) step.dataset.id spot.id first count ≡ unmade_in first count step.named.value
   unmade_is tally first count agrees =
@@ -316,14 +316,14 @@ module _ (spot : Spot) (change : PlainFile → PlainFile) (makes : ℕ → Bool)
       (each_same count (λ k. made_now tally step.dataset.id spot.id (first + k)) (λ k. is_made (first + k) step.named.value)
       (λ k within. ap (λ (id : ℕ). made_now tally step.dataset.id id (first + k)) (sym step.numbered) ∙ sym (agrees.marks spot.place step.dataset step.at step.named (first + k) step.stands step.there)))
 
-  marks_behind : (tally : Tally) (first count : ℕ) → IsPlain (pool_of old) → ((k : ℕ) → makes k ≡ is_within first (first + count) k) → Agrees tally old
+  marks_after : (tally : Tally) (first count : ℕ) → IsPlain (pool_of old) → ((k : ℕ) → makes k ≡ is_within first (first + count) k) → Agrees tally old
       → (place : ℕ) (d : HeartDataset) (at : ℕ) (n : Named HeartFile) (k : ℕ) → StandsAt new.datasets place d → StandsAt d.files at n
       → is_made k n.value ≡ made_now (with_blocks (blocks_made tally step.dataset.id spot.id first count) tally) d.id n.id k
-  marks_behind tally first count plain within agrees place d at n k stands file_stands =
+  marks_after tally first count plain within agrees place d at n k stands file_stands =
       ⊎_elim
       (λ (other : (place ≢ spot.place) × StandsAt old.datasets place d).
       let apart : (d.id == step.dataset.id) ≡ false = ne_eqb d.id step.dataset.id (ids_apart plain place d other.0 other.1) in
-      agrees.marks place d at n k other.1 file_stands ∙ only_before (made_now tally d.id n.id k) _ (rw apart refl) ∙ sym (made_now_behind tally first count d.id n.id k))
+      agrees.marks place d at n k other.1 file_stands ∙ only_before (made_now tally d.id n.id k) _ (rw apart refl) ∙ sym (made_now_after tally first count d.id n.id k))
       (λ (here : (place ≡ spot.place) × (d ≡ step.behind)).
       let id : d.id ≡ step.dataset.id = ap (λ (h : HeartDataset). h.id) here.1 ∙ step.id in
       let there : StandsAt (change_at (λ _. with_value step.file step.named) step.at step.dataset.files) at n =
@@ -332,7 +332,7 @@ module _ (spot : Spot) (change : PlainFile → PlainFile) (makes : ℕ → Bool)
       (λ (other : (at ≢ step.at) × StandsAt step.dataset.files at n).
       let apart : (n.id == spot.id) ≡ false = ne_eqb n.id spot.id (files_apart plain at n other.0 other.1) in
       agrees.marks spot.place step.dataset at n k step.stands other.1 ∙ only_before (made_now tally step.dataset.id n.id k) _ (rw apart (none_among (step.dataset.id == step.dataset.id)))
-      ∙ sym (made_now_behind tally first count step.dataset.id n.id k) ∙ ap (λ (i : ℕ). made_now (with_blocks (blocks_made tally step.dataset.id spot.id first count) tally) i n.id k) (sym id))
+      ∙ sym (made_now_after tally first count step.dataset.id n.id k) ∙ ap (λ (i : ℕ). made_now (with_blocks (blocks_made tally step.dataset.id spot.id first count) tally) i n.id k) (sym id))
       (λ (changed : (at ≡ step.at) × (n ≡ with_value step.file step.named)).
       let file_id : n.id ≡ spot.id = ap (λ (m : Named HeartFile). m.id) changed.1 ∙ step.numbered in
       let same_dataset : (step.dataset.id == step.dataset.id) ≡ true = eq-eqb step.dataset.id step.dataset.id refl in
@@ -342,15 +342,15 @@ module _ (spot : Spot) (change : PlainFile → PlainFile) (makes : ℕ → Bool)
       agrees.marks spot.place step.dataset step.at step.named k step.stands step.there ∙ ap (λ (i : ℕ). made_now tally step.dataset.id i k) step.numbered in
       ap (λ (m : Named HeartFile). is_made k m.value) changed.1 ∙ step.marks.made k
       ∙ ap (λ (b : Bool). b || makes k) before ∙ ap (λ (b : Bool). made_now tally step.dataset.id spot.id k || b) (sym among)
-      ∙ sym (made_now_behind tally first count step.dataset.id spot.id k)
+      ∙ sym (made_now_after tally first count step.dataset.id spot.id k)
       ∙ ap (λ (i : ℕ). made_now (with_blocks (blocks_made tally step.dataset.id spot.id first count) tally) i spot.id k) (sym id)
       ∙ ap (λ (i : ℕ). made_now (with_blocks (blocks_made tally step.dataset.id spot.id first count) tally) d.id i k) (sym file_id))
       (stands_changed (with_value step.file step.named) step.at step.dataset.files at n there))
       (stands_changed step.behind spot.place old.datasets place d (subst (λ (ds : List HeartDataset). StandsAt ds place d) step.datasets stands))
 
-  no_file_behind : (tally : Tally) (first count : ℕ) → IsPlain (pool_of old) → Agrees tally old → (place : ℕ) (d : HeartDataset) → StandsAt new.datasets place d
+  no_file_after : (tally : Tally) (first count : ℕ) → IsPlain (pool_of old) → Agrees tally old → (place : ℕ) (d : HeartDataset) → StandsAt new.datasets place d
       → AllByRecursion (λ (b : MadeBlock). (b.dataset == d.id) ≡ true → b.file < d.next_file) (with_blocks (blocks_made tally step.dataset.id spot.id first count) tally).made
-  no_file_behind tally first count plain agrees place d stands =
+  no_file_after tally first count plain agrees place d stands =
       ⊎_elim
       (λ (other : (place ≢ spot.place) × StandsAt old.datasets place d).
       all_more tally.made (length tally.sealed) step.dataset.id spot.id first (λ (b : MadeBlock). (b.dataset == d.id) ≡ true → b.file < d.next_file) count
@@ -364,9 +364,9 @@ module _ (spot : Spot) (change : PlainFile → PlainFile) (makes : ℕ → Bool)
       (λ k same. below_file plain))))
       (stands_changed step.behind spot.place old.datasets place d (subst (λ (ds : List HeartDataset). StandsAt ds place d) step.datasets stands))
 
-  pub agrees_behind_step : (tally : Tally) (first count : ℕ) → IsPlain (pool_of old) → ((k : ℕ) → makes k ≡ is_within first (first + count) k) → new.made ≡ old.made + unmade_in first count step.named.value → Agrees tally old
+  pub agrees_after_step : (tally : Tally) (first count : ℕ) → IsPlain (pool_of old) → ((k : ℕ) → makes k ≡ is_within first (first + count) k) → new.made ≡ old.made + unmade_in first count step.named.value → Agrees tally old
       → Agrees (with_blocks (blocks_made tally step.dataset.id spot.id first count) tally) new
-  agrees_behind_step tally first count plain within more agrees =
+  agrees_after_step tally first count plain within more agrees =
       let unmade = unmade_is tally first count agrees in
       let long = length_more tally.made (length tally.sealed) step.dataset.id spot.id first count in
       let seals : length agrees.finished + length old.waiting ≡ length tally.sealed =
@@ -381,7 +381,7 @@ module _ (spot : Spot) (change : PlainFile → PlainFile) (makes : ℕ → Bool)
         below = rw step.group agrees.below;
         made = rw (step.waiting, more, ← unmade) made;
         whole = rw step.waiting (omega (arith, long, unmade, whole, more));
-        marks = marks_behind tally first count plain within agrees;
+        marks = marks_after tally first count plain within agrees;
         no_dataset = rw step.next_dataset (all_more tally.made (length tally.sealed) step.dataset.id spot.id first (λ (b : MadeBlock). b.dataset < old.next_dataset) count agrees.no_dataset (λ k. below_dataset plain));
-        no_file = no_file_behind tally first count plain agrees;
+        no_file = no_file_after tally first count plain agrees;
       }

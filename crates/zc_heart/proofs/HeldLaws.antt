@@ -75,15 +75,15 @@ measure_changed measure weight weighs f g (suc n) index within others =
     (cases_eq index n)
 
 -- items that weigh nothing add nothing
-pub measure_behind : {X : Type 0} (measure : List X → ℕ) (weight : X → ℕ) → Weighs measure weight → (f : ℕ → X) (m n : ℕ) → m ≤ n → ((k : ℕ) → m ≤ k → weight (f k) ≡ 0) → measure (each n f) ≡ measure (each m f)
-measure_behind measure weight weighs f m zero within none = let all : 0 ≡ m = omega arith in ap (λ (n : ℕ). measure (each n f)) all
-measure_behind measure weight weighs f m (suc n) within none =
+pub measure_after : {X : Type 0} (measure : List X → ℕ) (weight : X → ℕ) → Weighs measure weight → (f : ℕ → X) (m n : ℕ) → m ≤ n → ((k : ℕ) → m ≤ k → weight (f k) ≡ 0) → measure (each n f) ≡ measure (each m f)
+measure_after measure weight weighs f m zero within none = let all : 0 ≡ m = omega arith in ap (λ (n : ℕ). measure (each n f)) all
+measure_after measure weight weighs f m (suc n) within none =
     ⊎_elim
     (λ (all : m ≡ suc n). ap (λ (k : ℕ). measure (each k f)) (sym all))
     (λ (fewer : m ≢ suc n).
     let short : m ≤ n = omega (arith, fewer) in
     let more = weighed_more measure weight weighs n f in
-    let front = measure_behind measure weight weighs f m n short none in
+    let front = measure_after measure weight weighs f m n short none in
     omega (arith, more, front, none n short))
     (cases_eq m (suc n))
 

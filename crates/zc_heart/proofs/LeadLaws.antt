@@ -18,7 +18,7 @@ use Rattle.zc_heart.specs.Core.{plain_file, plain_dataset, pool_of, areas_of, is
 use Rattle.zc_heart.specs.Meaning.{placed_by_all}
 use Rattle.zc_heart.specs.Noted.{noted_in}
 use Rattle.zc_heart.proofs.ListLaws.{each_of, each_of_two}
-use Rattle.zc_heart.proofs.MadeLaws.{StandsNow, stands_noted, made_file, made_file_is, each_of_files, all_changed, made_behind_log, none_placed}
+use Rattle.zc_heart.proofs.MadeLaws.{StandsNow, stands_noted, made_file, made_file_is, each_of_files, all_changed, made_after_log, none_placed}
 use Rattle.zc_heart.proofs.NotedLaws.{Fact, Covers, facts, all_covered, noted_stand}
 
 -- what is known of a file, and that the changes cover it
@@ -82,7 +82,7 @@ leads core is base placing group led =
     (λ dataset fact covers. each_of_two (Fact pool dataset.id) (Covers noted dataset.id) (IsLed pool noted dataset.id) dataset.files (λ named one other. (one, other)) fact covers) known (all_covered core is) in
     let datasets = lead_datasets placing pool noted stand led.before.datasets core.datasets led.datasets all_led in
     ap (λ (placed : List Ptr). made_in (core.log ++ noted) placed start) (none_placed placing pool core.log noted is.logged)
-    ∙ made_behind_log core.log noted ptrs start is.logged
+    ∙ made_after_log core.log noted ptrs start is.logged
     ∙ ap (made_in noted ptrs) (led.made group placing)
     ∙ all_changed noted ptrs (tree_of group placing (areas_of core) led.before) (each_of (StandsNow pool) (λ (change : Change). is_noted change ≡ true) noted (λ change stands. stands_noted pool change stands) stand)
     ∙ (λ i. record { group = group; next_dataset = led.next_dataset i; datasets = datasets i })

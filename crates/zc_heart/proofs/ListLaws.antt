@@ -106,7 +106,7 @@ none_of test (x ∷ xs) all = or_from (test x) (list_any test xs) all.0 (none_of
 
 -- ---- numbers that ascend
 
--- each number is below those behind it
+-- each number is below those after it
 abbrev pub Rises : {X : Type 0} → (X → ℕ) → List X → Type 0
 Rises number_of [] = Unit {0}
 Rises number_of (x ∷ xs) = AllByRecursion (λ y. number_of x < number_of y) xs × Rises number_of xs

@@ -83,8 +83,8 @@ finds test k (x ∷ xs) =
 abbrev pub Ascend : {X : Type 0} → (X → ℕ) → List X → Type 0
 Ascend {X} number_of xs = (a b : ℕ) (x y : X) → a < b → StandsAt xs a x → StandsAt xs b y → number_of x < number_of y
 
-pub ascend_behind : {X : Type 0} (number_of : X → ℕ) (x : X) (xs : List X) → Ascend number_of (x ∷ xs) → Ascend number_of xs
-ascend_behind number_of x xs ascend = λ a b y z lt first second. ascend (suc a) (suc b) y z (omega arith) first second
+pub ascend_after : {X : Type 0} (number_of : X → ℕ) (x : X) (xs : List X) → Ascend number_of (x ∷ xs) → Ascend number_of xs
+ascend_after number_of x xs ascend = λ a b y z lt first second. ascend (suc a) (suc b) y z (omega arith) first second
 
 -- no item has a number like the first one's
 others_above : {X : Type 0} (number_of : X → ℕ) (x : X) (xs : List X) → Ascend number_of (x ∷ xs) → (at : ℕ) (y : X) → StandsAt xs at y → (number_of y == number_of x) ≡ false
@@ -92,7 +92,7 @@ others_above number_of x xs ascend at y stands =
     let above = ascend 0 (suc at) x y (omega arith) refl stands in
     ne_eqb (number_of y) (number_of x) (omega arith)
 
--- the first one's number is not that of the item behind it
+-- the first one's number is not that of the item after it
 first_below : {X : Type 0} (number_of : X → ℕ) (x : X) (xs : List X) → Ascend number_of (x ∷ xs) → (at : ℕ) (y : X) → StandsAt xs at y → (number_of x == number_of y) ≡ false
 first_below number_of x xs ascend at y stands =
     let above = ascend 0 (suc at) x y (omega arith) refl stands in
@@ -106,7 +106,7 @@ found_by_number number_of (y ∷ xs) zero x ascend stands =
     let test : (number_of y == number_of x) ≡ true = eq-eqb (number_of y) (number_of x) (ap number_of same) in
     rw test stands
 found_by_number number_of (y ∷ xs) (suc at) x ascend stands =
-    rw (first_below number_of y xs ascend at x stands) (found_by_number number_of xs at x (ascend_behind number_of y xs ascend) stands)
+    rw (first_below number_of y xs ascend at x stands) (found_by_number number_of xs at x (ascend_after number_of y xs ascend) stands)
 
 -- a change of what no item has changes nothing
 pub none_changed : {X : Type 0} (number_of : X → ℕ) (number : ℕ) (f : X → X) (xs : List X) → ((at : ℕ) (y : X) → StandsAt xs at y → (number_of y == number) ≡ false) → change_by number_of number f xs ≡ xs
@@ -128,7 +128,7 @@ changed_by_number {X} number_of f (y ∷ xs) zero x ascend stands =
     let rest = none_changed number_of (number_of y) f xs (others_above number_of y xs ascend) in
     subst (λ (z : X). change_by number_of (number_of z) f (y ∷ xs) ≡ f y ∷ xs) same (rw test (ap (λ (zs : List X). f y ∷ zs) rest))
 changed_by_number number_of f (y ∷ xs) (suc at) x ascend stands =
-    rw (first_below number_of y xs ascend at x stands) (ap (λ rest. y ∷ rest) (changed_by_number number_of f xs at x (ascend_behind number_of y xs ascend) stands))
+    rw (first_below number_of y xs ascend at x stands) (ap (λ rest. y ∷ rest) (changed_by_number number_of f xs at x (ascend_after number_of y xs ascend) stands))
 
 -- and so is taking out
 pub taken_by_number : {X : Type 0} (number_of : X → ℕ) (xs : List X) (at : ℕ) (x : X) → Ascend number_of xs → StandsAt xs at x → without number_of (number_of x) xs ≡ remove xs at
@@ -139,7 +139,7 @@ taken_by_number {X} number_of (y ∷ xs) zero x ascend stands =
     let rest = none_taken number_of (number_of y) xs (others_above number_of y xs ascend) in
     subst (λ (z : X). without number_of (number_of z) (y ∷ xs) ≡ xs) same (rw test rest)
 taken_by_number number_of (y ∷ xs) (suc at) x ascend stands =
-    rw (first_below number_of y xs ascend at x stands) (ap (λ rest. y ∷ rest) (taken_by_number number_of xs at x (ascend_behind number_of y xs ascend) stands))
+    rw (first_below number_of y xs ascend at x stands) (ap (λ rest. y ∷ rest) (taken_by_number number_of xs at x (ascend_after number_of y xs ascend) stands))
 
 -- ---- images
 

@@ -19,7 +19,7 @@ use Rattle.zc_heart.specs.declared.file.HeartFile.{HeartFile}
 use Rattle.zc_heart.specs.declared.directory.Named.{Named}
 use Rattle.zc_heart.specs.declared.pool_core.HeartDataset.{HeartDataset}
 use Rattle.zc_heart.specs.Directory.{id_of}
-use Rattle.zc_heart.specs.Changes.{Placing, without, number_of_dataset, number_of_file, nowhere, is_made, left_behind, changed, made_in, file_of, dataset_of, datasets_of, tree_of}
+use Rattle.zc_heart.specs.Changes.{Placing, without, number_of_dataset, number_of_file, nowhere, is_made, left_after, changed, made_in, file_of, dataset_of, datasets_of, tree_of}
 use Rattle.zc_heart.specs.Core.{IsBefore, AreBefore, AreDatasetsBefore}
 use Rattle.zc_heart.proofs.Listing.{Ascend, changed_by_number, taken_by_number, map_more, map_removed, stood_in_map, stands_in_map}
 
@@ -135,7 +135,7 @@ made_in_more (one ∷ log) change tree =
     ∙ made_in_more log change (changed one nowhere tree)
     ∙ ap (λ (ptrs : List Ptr). changed change nowhere (made_in log ptrs (changed one nowhere tree))) (sym (none_left one))
   where
-    none_left : (one : Change) → left_behind one [] ≡ []
+    none_left : (one : Change) → left_after one [] ≡ []
     none_left one = either (is_made one)
       where
         either : (b : Bool) → (if b then drop {A = Ptr} 1 [] else []) ≡ []

@@ -19,14 +19,14 @@ use Rattle.zc_heart.specs.declared.changes.Now.{Now}
 use Rattle.zc_heart.specs.declared.changes.Now.TheVariants as now
 use Rattle.zc_heart.specs.declared.changes.Change.{Change}
 use Rattle.zc_heart.specs.declared.changes.Change.TheVariants.{MakeDataset, DropDataset, MakeFile, DropFile, Size, Put}
-use Rattle.zc_heart.specs.Changes.{Placing, changed, is_noted, left_behind, first_of, nowhere, made_in, with_slot, number_of_file, file_of, slots_from}
+use Rattle.zc_heart.specs.Changes.{Placing, changed, is_noted, left_after, first_of, nowhere, made_in, with_slot, number_of_file, file_of, slots_from}
 use Rattle.zc_heart.specs.Meaning.{files_with, block_in, IsNow, stamp_placed, placed_by, placed_by_all}
 use Rattle.zc_heart.proofs.SlotLaws.{slot_value, slots_ascend, slot_of_block, same_entries}
 
 -- ---- what the log makes
 
 -- a change that is of no file's size and blocks takes no pointer
-free_change : (change : Change) (ptrs : List Ptr) (tree : Tree) → is_noted change ≡ false → (left_behind change ptrs ≡ ptrs) × (changed change (first_of ptrs) tree ≡ changed change nowhere tree)
+free_change : (change : Change) (ptrs : List Ptr) (tree : Tree) → is_noted change ≡ false → (left_after change ptrs ≡ ptrs) × (changed change (first_of ptrs) tree ≡ changed change nowhere tree)
 unfolding changed
 free_change (MakeDataset id slot name) ptrs tree free = (refl, refl)
 free_change (DropDataset id) ptrs tree free = (refl, refl)
@@ -35,15 +35,15 @@ free_change (DropFile dataset file) ptrs tree free = (refl, refl)
 free_change (Size dataset file size) ptrs tree free = absurd (true≢false free)
 free_change (Put dataset file block now) ptrs tree free = absurd (true≢false free)
 
--- so the log is made first, and all pointers are left to what is behind it
-pub made_behind_log : (log changes : List Change) (ptrs : List Ptr) (tree : Tree) → AllByRecursion (λ (change : Change). is_noted change ≡ false) log → made_in (log ++ changes) ptrs tree ≡ made_in changes ptrs (made_in log [] tree)
-made_behind_log [] changes ptrs tree free = refl
-made_behind_log (change ∷ log) changes ptrs tree free =
+-- so the log is made first, and all pointers are left to what is after it
+pub made_after_log : (log changes : List Change) (ptrs : List Ptr) (tree : Tree) → AllByRecursion (λ (change : Change). is_noted change ≡ false) log → made_in (log ++ changes) ptrs tree ≡ made_in changes ptrs (made_in log [] tree)
+made_after_log [] changes ptrs tree free = refl
+made_after_log (change ∷ log) changes ptrs tree free =
     let one = free_change change ptrs tree free.0 in
     let none = free_change change [] tree free.0 in
     ap (λ (left : List Ptr). made_in (log ++ changes) left (changed change (first_of ptrs) tree)) one.0
     ∙ ap (made_in (log ++ changes) ptrs) one.1
-    ∙ made_behind_log log changes ptrs (changed change nowhere tree) free.1
+    ∙ made_after_log log changes ptrs (changed change nowhere tree) free.1
     ∙ ap (λ (left : List Ptr). made_in changes ptrs (made_in log left (changed change nowhere tree))) (sym none.0)
 
 -- and it places nothing
@@ -82,7 +82,7 @@ one_file change ptr d f found = cond (is_of d f change) (acted change ptr found)
 -- what changes make of the file with these numbers
 abbrev pub made_file : List Change → List Ptr → (dataset file : ℕ) → File → File
 made_file [] ptrs d f found = found
-made_file (change ∷ changes) ptrs d f found = made_file changes (left_behind change ptrs) d f (one_file change (first_of ptrs) d f found)
+made_file (change ∷ changes) ptrs d f found = made_file changes (left_after change ptrs) d f (one_file change (first_of ptrs) d f found)
 
 -- each file of a dataset, and of a tree, by itself
 abbrev pub each_of_files : (ℕ → ℕ → File → File) → Dataset → Dataset
@@ -131,7 +131,7 @@ pub made_keeps : (changes : List Change) (ptrs : List Ptr) (d f : ℕ) (found : 
 made_keeps [] ptrs d f found = (refl, refl)
 made_keeps (change ∷ changes) ptrs d f found =
     let one = one_keeps change (first_of ptrs) d f found in
-    let rest = made_keeps changes (left_behind change ptrs) d f (one_file change (first_of ptrs) d f found) in
+    let rest = made_keeps changes (left_after change ptrs) d f (one_file change (first_of ptrs) d f found) in
     (rest.0 ∙ one.0, rest.1 ∙ one.1)
 
 -- two steps one after the other
@@ -156,10 +156,10 @@ none_each (found ∷ datasets) = λ i. record found { files = sym (map-id found.
 pub all_changed : (changes : List Change) (ptrs : List Ptr) (tree : Tree) → AllByRecursion (λ (change : Change). is_noted change ≡ true) changes → made_in changes ptrs tree ≡ each_file (made_file changes ptrs) tree
 all_changed [] ptrs tree noted = ap (λ (datasets : List Dataset). record tree { datasets = datasets }) (none_each tree.datasets)
 all_changed (change ∷ changes) ptrs tree noted =
-    ap (made_in changes (left_behind change ptrs)) (one_changed change (first_of ptrs) tree noted.0)
-    ∙ all_changed changes (left_behind change ptrs) (each_file (one_file change (first_of ptrs)) tree) noted.1
+    ap (made_in changes (left_after change ptrs)) (one_changed change (first_of ptrs) tree noted.0)
+    ∙ all_changed changes (left_after change ptrs) (each_file (one_file change (first_of ptrs)) tree) noted.1
     ∙ ap (λ (datasets : List Dataset). record tree { datasets = datasets })
-    (then_each (one_file change (first_of ptrs)) (made_file changes (left_behind change ptrs)) (λ d f file. (one_keeps change (first_of ptrs) d f file).0) tree.datasets)
+    (then_each (one_file change (first_of ptrs)) (made_file changes (left_after change ptrs)) (λ d f file. (one_keeps change (first_of ptrs) d f file).0) tree.datasets)
 
 -- ---- one file
 
@@ -205,7 +205,7 @@ slot_put (now.Made bytes) ptr = Some ptr
 -- the next pointer is where the block stands that is put, and the others are left
 put_where : (placing : Placing) (pool : PlainPool) (d f block : ℕ) (now : Now) (ptrs : List Ptr) (found : PlainFile) → files_with d f pool ≡ found ∷ [] → IsNow now (block_at block found.blocks)
     → (slot_value placing (block_at block found.blocks) ≡ slot_put now (first_of (placed_by placing pool (Put d f block now) ++ ptrs)))
-    × (left_behind (Put d f block now) (placed_by placing pool (Put d f block now) ++ ptrs) ≡ ptrs)
+    × (left_after (Put d f block now) (placed_by placing pool (Put d f block now) ++ ptrs) ≡ ptrs)
 put_where placing pool d f block now.Hole ptrs found only is = (hole (block_at block found.blocks) is, refl) where
   hole : (at : PlainBlock) → IsNow now.Hole at → slot_value placing at ≡ None
   hole Hole is = refl
@@ -222,8 +222,8 @@ put_where placing pool d f block (now.Made bytes) ptrs found only is =
     made Hole is = absurd is
     made (Made entry index held) is = (refl, refl)
 
--- the pointers that are left behind a change
-left_then : (placing : Placing) (pool : PlainPool) (change : Change) (ptrs : List Ptr) → StandsNow pool change → left_behind change (placed_by placing pool change ++ ptrs) ≡ ptrs
+-- the pointers that are left after a change
+left_then : (placing : Placing) (pool : PlainPool) (change : Change) (ptrs : List Ptr) → StandsNow pool change → left_after change (placed_by placing pool change ++ ptrs) ≡ ptrs
 left_then placing pool (MakeDataset id slot name) ptrs stands = absurd stands
 left_then placing pool (DropDataset id) ptrs stands = absurd stands
 left_then placing pool (MakeFile dataset file name) ptrs stands = absurd stands
@@ -231,7 +231,7 @@ left_then placing pool (DropFile dataset file) ptrs stands = absurd stands
 left_then placing pool (Size dataset file size) ptrs stands = refl
 left_then placing pool (Put dataset file block now) ptrs stands = (put_where placing pool dataset file block now ptrs stands.0 stands.1 stands.2).1
 
--- the slots of a file behind a put
+-- the slots of a file after a put
 slots_put : (block : ℕ) (now : Now) (ptr : Ptr) (found : File) → Ascends found.slots
     → (value_at block (with_slot block now ptr found).slots ≡ slot_put now ptr) × ((k : ℕ) → k ≢ block → value_at k (with_slot block now ptr found).slots ≡ value_at k found.slots) × Ascends (with_slot block now ptr found).slots
 slots_put block now.Hole ptr found rise = (value_of_taken block found.slots rise, λ k other. value_of_other_taken k block found.slots other, ascends_taken block found.slots rise)
@@ -241,7 +241,7 @@ slots_put block (now.Made bytes) ptr found rise = (value_of_put block ptr found.
 one_file_there : (found file : PlainFile) → found ∷ [] ≡ file ∷ [] → found ≡ file
 one_file_there found file same = cc
 
--- the slots ascend behind a change
+-- the slots ascend after a change
 rises_still : (change : Change) (ptr : Ptr) (d f : ℕ) (found : File) → Ascends found.slots → Ascends (one_file change ptr d f found).slots
 rises_still change ptr d f found rise = by (is_of d f change) change where
   by : (here : Bool) (change : Change) → Ascends (cond here (acted change ptr found) found).slots
@@ -258,7 +258,7 @@ module _ (placing : Placing) (pool : PlainPool) (d f : ℕ) (file : PlainFile) (
   abbrev HasSlot : ℕ → File → Type 0
   HasSlot k found = value_at k found.slots ≡ slot_value placing (block_at k file.blocks)
 
-  -- a file of the tree has it behind a change that puts there, and keeps it
+  -- a file of the tree has it after a change that puts there, and keeps it
   step_slot : (k : ℕ) (change : Change) (ptrs : List Ptr) (found : File) → StandsNow pool change → Ascends found.slots → HasSlot k found ⊎ (is_put_at d f k change ≡ true)
       → HasSlot k (one_file change (first_of (placed_by placing pool change ++ ptrs)) d f found)
   step_slot k (MakeDataset id slot name) ptrs found stands rise there = absurd stands
@@ -316,7 +316,7 @@ module _ (placing : Placing) (pool : PlainPool) (d f : ℕ) (file : PlainFile) (
   pub made_rises : (changes : List Change) (ptrs : List Ptr) (found : File) → Ascends found.slots → Ascends (made_file changes ptrs d f found).slots
   made_rises [] ptrs found rise = rise
   made_rises (change ∷ changes) ptrs found rise =
-      made_rises changes (left_behind change ptrs) (one_file change (first_of ptrs) d f found) (rises_still change (first_of ptrs) d f found rise)
+      made_rises changes (left_after change ptrs) (one_file change (first_of ptrs) d f found) (rises_still change (first_of ptrs) d f found rise)
 
   -- the same of the file's size
   step_size : (change : Change) (ptr : Ptr) (found : File) → StandsNow pool change → (found.size ≡ file.size) ⊎ (is_size_of d f change ≡ true) → (one_file change ptr d f found).size ≡ file.size
@@ -343,7 +343,7 @@ module _ (placing : Placing) (pool : PlainPool) (d f : ℕ) (file : PlainFile) (
   made_size [] ptrs found stand there = ⊎_elim (λ (has : found.size ≡ file.size). has) (λ (no : false ≡ true). absurd (true≢false (sym no))) there
   made_size (change ∷ changes) ptrs found stand there =
       let next = one_file change (first_of ptrs) d f found in
-      let go : (next.size ≡ file.size) ⊎ (list_any (is_size_of d f) changes ≡ true) → (made_file changes (left_behind change ptrs) d f next).size ≡ file.size = made_size changes (left_behind change ptrs) next stand.1 in
+      let go : (next.size ≡ file.size) ⊎ (list_any (is_size_of d f) changes ≡ true) → (made_file changes (left_after change ptrs) d f next).size ≡ file.size = made_size changes (left_after change ptrs) next stand.1 in
       ⊎_elim
       (λ (has : found.size ≡ file.size). go (inl (step_size change (first_of ptrs) found stand.0 (inl has))))
       (λ (some : list_any (is_size_of d f) (change ∷ changes) ≡ true). ⊎_elim

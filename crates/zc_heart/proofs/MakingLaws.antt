@@ -127,13 +127,13 @@ short_once_put (Err fault) number offset bytes old new writes stays short ends =
     let size : new.size ≡ old.size = ap (λ (f : PlainFile). f.size) stays.file in
     omega (arith, size, short)
 
--- and so does what was cut
-pub short_once_cut : {T E : Type 0} (result : Result T E) (number size : ℕ) (old new : HeartFile) → OnOk result (Truncates number size old new) → OnErr result (StaysFile old new) → old.size ≤ 2 ^ 28 → size ≤ 2 ^ 28 → new.size ≤ 2 ^ 28
+-- and so does what was trimmed
+pub short_once_trimmed : {T E : Type 0} (result : Result T E) (number size : ℕ) (old new : HeartFile) → OnOk result (Truncates number size old new) → OnErr result (StaysFile old new) → old.size ≤ 2 ^ 28 → size ≤ 2 ^ 28 → new.size ≤ 2 ^ 28
 unfolding truncated
-short_once_cut (Ok value) number size old new cuts stays short ends =
-    let sized : new.size ≡ size = ap (λ (f : PlainFile). f.size) cuts.file in
+short_once_trimmed (Ok value) number size old new trims stays short ends =
+    let sized : new.size ≡ size = ap (λ (f : PlainFile). f.size) trims.file in
     omega (arith, sized, ends)
-short_once_cut (Err fault) number size old new cuts stays short ends =
+short_once_trimmed (Err fault) number size old new trims stays short ends =
     let sized : new.size ≡ old.size = ap (λ (f : PlainFile). f.size) stays.file in
     omega (arith, sized, short)
 
@@ -166,19 +166,19 @@ dropped_file spot old first dataset behind log stamps is first_stands stands log
 pub added_file : (place : ℕ) (name copy : List ℕ) (old behind : Core) (dataset : HeartDataset) (log : List Change) → IsCore old → StandsAt old.datasets place dataset → files_in place old ≡ dataset.files
     → is_some (id_called name (files_in place old)) ≡ false → length (files_in place old) + 1 ≤ most_files (pool_of old) → copy ≡ name → log ≡ old.log ++ MakeFile dataset.id dataset.next_file copy ∷ []
     → behind ≡ record old { log = log; datasets = change_at (with_file name) place old.datasets } → Becomes (deeds.AddFile place name) old behind
-added_file place name copy old behind dataset log is stands files missing few same logged behind_is =
+added_file place name copy old behind dataset log is stands files missing few same logged later_is =
     let none : is_some (id_called name dataset.files) ≡ false = ap (λ (all : List (Named HeartFile)). is_some (id_called name all)) (sym files) ∙ missing in
     let many = ap (λ (all : List (Named HeartFile)). length all) files in
     let log_is : log ≡ old.log ++ MakeFile dataset.id dataset.next_file name ∷ [] = logged ∙ ap (λ (text : List ℕ). old.log ++ MakeFile dataset.id dataset.next_file text ∷ []) same in
-    subst (Becomes (deeds.AddFile place name) old) (sym behind_is)
+    subst (Becomes (deeds.AddFile place name) old) (sym later_is)
     (subst (λ (ds : List HeartDataset). Becomes (deeds.AddFile place name) old (record old { log = log; datasets = ds })) (sym (changed_to (with_file name) place old.datasets dataset stands))
     (subst (λ (all : List Change). Becomes (deeds.AddFile place name) old (record old { log = all; datasets = change_at (λ _. with_file name dataset) place old.datasets })) (sym log_is)
     (becomes_with_file place dataset name old stands is none (omega (arith, few, many)))))
 
 -- the heart whose log had one more change, which went again
 pub left_unlogged : (old behind : Core) (change : Change) (log last : List Change) → IsCore old → log ≡ old.log ++ change ∷ [] → behind ≡ record old { log = log } → last ≡ take (length behind.log - 1) behind.log → IsLeft old (record behind { log = last })
-left_unlogged old behind change log last is logged behind_is rest =
-    let all : behind.log ≡ old.log ++ change ∷ [] = ap (λ (core : Core). core.log) behind_is ∙ logged in
+left_unlogged old behind change log last is logged later_is rest =
+    let all : behind.log ≡ old.log ++ change ∷ [] = ap (λ (core : Core). core.log) later_is ∙ logged in
     let again : last ≡ old.log = rest ∙ ap (λ (changes : List Change). take (length changes - 1) changes) all ∙ without_last old.log change in
-    let same : record behind { log = last } ≡ old = ap (λ (core : Core). record core { log = last }) behind_is ∙ ap (λ (changes : List Change). record old { log = changes }) again in
+    let same : record behind { log = last } ≡ old = ap (λ (core : Core). record core { log = last }) later_is ∙ ap (λ (changes : List Change). record old { log = changes }) again in
     subst (IsLeft old) (sym same) (left_same old is)

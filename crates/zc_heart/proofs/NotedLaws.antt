@@ -362,9 +362,9 @@ noted_once (dataset ∷ datasets) rises marked =
     rises.0))
 
 -- a log in front puts nothing
-pub once_behind_log : (log changes : List Change) → AllByRecursion (λ (change : Change). is_noted change ≡ false) log → AreOnce changes → AreOnce (log ++ changes)
-once_behind_log [] changes free once = once
-once_behind_log (change ∷ log) changes free once = (none change (log ++ changes) free.0, once_behind_log log changes free.1 once) where
+pub once_after_log : (log changes : List Change) → AllByRecursion (λ (change : Change). is_noted change ≡ false) log → AreOnce changes → AreOnce (log ++ changes)
+once_after_log [] changes free once = once
+once_after_log (change ∷ log) changes free once = (none change (log ++ changes) free.0, once_after_log log changes free.1 once) where
   none : (change : Change) (ys : List Change) → is_noted change ≡ false → list_any (is_twice change) ys ≡ false
   none change [] free = refl
   none (MakeDataset id slot name) (y ∷ ys) free = none (MakeDataset id slot name) ys free

@@ -32,7 +32,7 @@ use Rattle.zc_heart.specs.Stamps.{Moves, LearnsNothing, holds_number}
 use Rattle.zc_heart.specs.File.{stamps_in}
 use Rattle.zc_heart.specs.Changes.{without, is_noted, nowhere, changed, tree_of}
 use Rattle.zc_heart.specs.Core.{plain_block, plain_file, plain_dataset, plain_blocks, pool_of, areas_of, is_made, made_now, Agrees, Base, AreBefore, Leads, IsUntouched, IsHeartFile, IsStamped, AreApart, IsDatasetOfCore, IsCore}
-use Rattle.zc_heart.specs.Deeds.{place_of, number_of, files_in, without_numbered, empty_dataset, empty_file, with_logged, with_dataset, with_file, stamps_in_files, Becomes}
+use Rattle.zc_heart.specs.Deeds.{dataset_index, number_of, files_in, without_numbered, empty_dataset, empty_file, with_logged, with_dataset, with_file, stamps_in_files, Becomes}
 use Rattle.zc_heart.specs.Deeds as deeds
 use Rattle.zc_heart.proofs.Listing.{FindsAt, FindsNone, finds, holds_there, stands_in_map, map_more, map_removed, map_changed_there, map_without, taken_by_number, sum_more, sum_removed, sum_changed, sum_mapped, all_more_items, all_removed, all_changed, all_weaken}
 use Rattle.zc_heart.proofs.Counting.{count_in, count_of, counted_in_core, counted_in_files}
@@ -99,7 +99,7 @@ empty_is_dataset : (id area : ℕ) (name : List ℕ) → area < 8 → IsDatasetO
 unfolding pointers_in
 empty_is_dataset id area name few = record { area = few; pointers = refl; listed = tt; files = tt }
 
-core_with_dataset : (area : ℕ) (name : List ℕ) (old : Core) → IsCore old → area < 8 → list_any (λ (other : ℕ). other == area) (areas_of old) ≡ false → is_some (place_of name old) ≡ false → length old.datasets + 1 ≤ most_datasets → IsCore (with_dataset area name old)
+core_with_dataset : (area : ℕ) (name : List ℕ) (old : Core) → IsCore old → area < 8 → list_any (λ (other : ℕ). other == area) (areas_of old) ≡ false → is_some (dataset_index name old) ≡ false → length old.datasets + 1 ≤ most_datasets → IsCore (with_dataset area name old)
 core_with_dataset area name old is few free missing room = record {
   plain = rw pool_with_dataset (plain_with_dataset name (pool_of old) is.plain (ap is_some (place_same name old) ∙ missing) (let long = length-map old.datasets plain_dataset in omega (arith, long, room)));
   datasets = all_more_items IsDatasetOfCore old.datasets (empty_dataset old.next_dataset area name) is.datasets (empty_is_dataset old.next_dataset area name few);
@@ -151,7 +151,7 @@ leads_on_with_dataset area name old base leads = record {
       ∙ ap (λ (areas : List ℕ). tree_of group placing areas (with_new_dataset name leads.before)) (sym (map_more (λ (d : HeartDataset). d.area) old.datasets (empty_dataset old.next_dataset area name)));
 }
 
-pub becomes_with_dataset : (area : ℕ) (name : List ℕ) (old : Core) → IsCore old → area < 8 → list_any (λ (other : ℕ). other == area) (areas_of old) ≡ false → is_some (place_of name old) ≡ false → length old.datasets + 1 ≤ most_datasets
+pub becomes_with_dataset : (area : ℕ) (name : List ℕ) (old : Core) → IsCore old → area < 8 → list_any (λ (other : ℕ). other == area) (areas_of old) ≡ false → is_some (dataset_index name old) ≡ false → length old.datasets + 1 ≤ most_datasets
     → Becomes (deeds.AddDataset name) old (with_dataset area name old)
 becomes_with_dataset area name old is few free missing room = record {
   is = core_with_dataset area name old is few free missing room;
@@ -329,9 +329,9 @@ module _ (place : ℕ) (dataset : HeartDataset) (name : List ℕ) (old : Core) (
         let behind = counted_in_core stamp added in
         let sum = sum_changed (count_in stamp) (with_file name dataset) place old.datasets dataset stands in
         let files = counted_in_files stamp dataset.files in
-        let files_behind = counted_in_files stamp (with_file name dataset).files ∙ sum_more (count_of stamp) dataset.files (new_named dataset.next_file name) in
+        let files_later = counted_in_files stamp (with_file name dataset).files ∙ sum_more (count_of stamp) dataset.files (new_named dataset.next_file name) in
         let none : count_of stamp (new_named dataset.next_file name) ≡ 0 = ap (λ (blocks : List PlainBlock). count_by (is_stamp stamp) (flat_map stamp_of blocks)) no_blocks in
-        omega (arith, before, behind, sum, files, files_behind, none);
+        omega (arith, before, behind, sum, files, files_later, none);
     stamped = stamped_added is.stamped;
     logged = all_more_items (λ (change : Change). is_noted change ≡ false) old.log (MakeFile dataset.id dataset.next_file name) is.logged refl;
     held = is.held;
@@ -405,24 +405,24 @@ module _ (place : ℕ) (dataset : HeartDataset) (name : List ℕ) (old : Core) (
 
 module _ (spot : Spot) (dataset : HeartDataset) (at : ℕ) (named : Named HeartFile) (behind : HeartDataset) (stamps : Stamps) (old : Core)
     (stands : StandsAt old.datasets spot.place dataset) (there : StandsAt dataset.files at named) (numbered : named.id ≡ spot.id)
-    (behind_is : behind ≡ record dataset { files = without id_of spot.id dataset.files; pointers = dataset.pointers - named.value.pointers })
+    (later_is : behind ≡ record dataset { files = without id_of spot.id dataset.files; pointers = dataset.pointers - named.value.pointers })
     (moves : Moves old.stamps stamps (stamps_in named.value) []) (learns : LearnsNothing old.stamps stamps) where
   abbrev pub less : Core
   less = record old { datasets = change_at (λ _. behind) spot.place old.datasets; stamps = stamps; log = old.log ++ DropFile dataset.id spot.id ∷ [] }
 
   files_less : IsPlain (pool_of old) → behind.files ≡ remove dataset.files at
   files_less plain =
-      ap (λ (d : HeartDataset). d.files) behind_is ∙ ap (λ (id : ℕ). without id_of id dataset.files) (sym numbered)
+      ap (λ (d : HeartDataset). d.files) later_is ∙ ap (λ (id : ℕ). without id_of id dataset.files) (sym numbered)
       ∙ taken_by_number id_of dataset.files at named (files_ascend (most_files (pool_of old)) (most_bytes (pool_of old)) dataset (dataset_is_plain old spot.place dataset plain stands)) there
 
   plain_less : plain_dataset behind ≡ without_numbered spot.id (plain_dataset dataset)
   plain_less =
-      ap plain_dataset behind_is
+      ap plain_dataset later_is
       ∙ ap (λ (files : List PlainFile). record { id = dataset.id; name = dataset.name; next_file = dataset.next_file; files = files }) (map_without plain_file id_of number_of spot.id dataset.files (λ x. refl))
 
   plain_removed : IsPlain (pool_of old) → plain_dataset behind ≡ without_file at (plain_dataset dataset)
   plain_removed plain =
-      ap (λ (d : HeartDataset). record { id = d.id; name = d.name; next_file = d.next_file; files = map plain_file behind.files }) behind_is
+      ap (λ (d : HeartDataset). record { id = d.id; name = d.name; next_file = d.next_file; files = map plain_file behind.files }) later_is
       ∙ ap (λ (files : List PlainFile). record { id = dataset.id; name = dataset.name; next_file = dataset.next_file; files = files }) (ap (map plain_file) (files_less plain) ∙ map_removed plain_file dataset.files at)
 
   pool_less : pool_of less ≡ in_dataset spot.place (without_numbered spot.id) (pool_of old)
@@ -440,7 +440,7 @@ module _ (spot : Spot) (dataset : HeartDataset) (at : ℕ) (named : Named HeartF
   areas_less : areas_of less ≡ areas_of old
   areas_less =
       map_changed_there (λ (d : HeartDataset). d.area) (λ _. behind) (λ n. n) spot.place old.datasets
-      (λ x here. ap (λ (d : HeartDataset). d.area) behind_is ∙ ap (λ (d : HeartDataset). d.area) (one_item dataset x (sym stands ∙ here)))
+      (λ x here. ap (λ (d : HeartDataset). d.area) later_is ∙ ap (λ (d : HeartDataset). d.area) (one_item dataset x (sym stands ∙ here)))
       ∙ changed_to_itself spot.place (map (λ (d : HeartDataset). d.area) old.datasets)
 
   dataset_less : IsPlain (pool_of old) → IsDatasetOfCore dataset → IsDatasetOfCore behind
@@ -451,11 +451,11 @@ module _ (spot : Spot) (dataset : HeartDataset) (at : ℕ) (named : Named HeartF
       let after = sum_mapped (λ (f : PlainFile). made_count f.blocks) plain_file behind.files ∙ ap (sum_by g) (files_less plain) in
       let sum = sum_removed g at dataset.files named there in
       let file = (holds_there (λ (n : Named HeartFile). IsHeartFile n.value) dataset.files at named is.files there).pointers in
-      let pointers = ap (λ (d : HeartDataset). d.pointers) behind_is in
+      let pointers = ap (λ (d : HeartDataset). d.pointers) later_is in
       record {
-        area = subst (λ (area : ℕ). area < 8) (sym (ap (λ (d : HeartDataset). d.area) behind_is)) is.area;
+        area = subst (λ (area : ℕ). area < 8) (sym (ap (λ (d : HeartDataset). d.area) later_is)) is.area;
         pointers = omega (arith, before, after, sum, file, pointers);
-        listed = subst (λ (numbers : List ℕ). AllByRecursion (λ (n : Named HeartFile). holds_number n.id numbers ≡ false → IsUntouched n) behind.files) (sym (ap (λ (d : HeartDataset). d.changed) behind_is))
+        listed = subst (λ (numbers : List ℕ). AllByRecursion (λ (n : Named HeartFile). holds_number n.id numbers ≡ false → IsUntouched n) behind.files) (sym (ap (λ (d : HeartDataset). d.changed) later_is))
             (subst (AllByRecursion (λ (n : Named HeartFile). holds_number n.id dataset.changed ≡ false → IsUntouched n)) (sym (files_less plain)) (all_removed (λ (n : Named HeartFile). holds_number n.id dataset.changed ≡ false → IsUntouched n) dataset.files at is.listed));
         files = subst (AllByRecursion (λ (n : Named HeartFile). IsHeartFile n.value)) (sym (files_less plain)) (all_removed (λ (n : Named HeartFile). IsHeartFile n.value) dataset.files at is.files);
       }
@@ -490,10 +490,10 @@ module _ (spot : Spot) (dataset : HeartDataset) (at : ℕ) (named : Named HeartF
   }
 
   id_less : behind.id ≡ dataset.id
-  id_less = ap (λ (d : HeartDataset). d.id) behind_is
+  id_less = ap (λ (d : HeartDataset). d.id) later_is
 
   next_less : behind.next_file ≡ dataset.next_file
-  next_less = ap (λ (d : HeartDataset). d.next_file) behind_is
+  next_less = ap (λ (d : HeartDataset). d.next_file) later_is
 
   agrees_less : IsPlain (pool_of old) → (tally : Tally) → Agrees tally old → Agrees tally less
   agrees_less plain tally agrees = record {
@@ -531,7 +531,7 @@ module _ (spot : Spot) (dataset : HeartDataset) (at : ℕ) (named : Named HeartF
         datasets = datasets_before_changed (without_file at) leads.before.datasets old.datasets spot.place dataset behind stands
             (λ before is. (
               is.0 ∙ sym id_less,
-              is.1 ∙ sym (ap (λ (d : HeartDataset). d.name) behind_is),
+              is.1 ∙ sym (ap (λ (d : HeartDataset). d.name) later_is),
               is.2 ∙ sym next_less,
               subst (AreBefore (remove before.files at)) (sym (files_less plain)) (files_before_removed before.files dataset.files at is.3),
             ))

@@ -19,7 +19,7 @@ use Rattle.zc_heart.specs.declared.stamps.Stamps.{Stamps}
 use Rattle.zc_heart.specs.Core.{plain_block, plain_blocks, is_touched, is_made, is_touched_by, is_made_by, IsHeartFile}
 use Rattle.zc_heart.specs.File.{Marks, CountsChange, Counts}
 use Rattle.zc_heart.specs.Stamps.{files_at, Moves, LearnsNothing}
-use Rattle.zc_heart.specs.Steps.{held_at, Sets, IsFresh, hole_mark}
+use Rattle.zc_heart.specs.Steps.{held_at, Sets, AreUnused, hole_mark}
 use Rattle.zc_heart.proofs.HeldLaws.{block_of_heart, value_once_put, value_once_taken, measure_changed, measure_holds, stamped_in, stamped_by, stamps_weigh, pointer_of, pointers_weigh, one_stamp, same_stamp, other_stamp}
 use Rattle.zc_heart.proofs.StepLaws.{or_nothing}
 
@@ -111,13 +111,13 @@ put_sets index held pointers file = record {
 }
 
 pub put_marks : (index : ℕ) (held : HeldBlock) (pointers : ℕ) (file : HeartFile) → IsHeartFile file → IsHeartFile (with_put index held pointers file) → Marks (λ k. k == index) file (with_put index held pointers file)
-put_marks index held pointers file heart heart_behind =
+put_marks index held pointers file heart heart_after =
     let new = with_put index held pointers file in
     let sets = put_sets index held pointers file in
     record {
       kept = λ k. value_once_put (λ value. is_touched_by value ≡ false → (is_touched k file ≡ false) × (block_at k (plain_blocks new) ≡ block_at k (plain_blocks file))) k index mark.Made file.marks
           (λ same touched. absurd (true≢false touched))
-          (λ apart untouched. (untouched, block_of_heart new k heart_behind ∙ sets.others k apart ∙ sym (block_of_heart file k heart)));
+          (λ apart untouched. (untouched, block_of_heart new k heart_after ∙ sets.others k apart ∙ sym (block_of_heart file k heart)));
       made = λ k. value_once_put (λ value. is_made_by value ≡ (is_made k file || (k == index))) k index mark.Made file.marks
           (λ same. sym (or_right (is_made k file) (k == index) (eq-eqb k index same)))
           (λ apart. or_nothing (is_made k file) ∙ ap (λ (b : Bool). is_made k file || b) (sym (ne_eqb k index apart)));
@@ -125,14 +125,14 @@ put_marks index held pointers file heart heart_behind =
     }
 
 -- a command's block joins, and the one that stood there leaves: the numbers below stay fresh, and keep their room
-pub fresh_once_joined : (number index : ℕ) (s t : Stamps) → IsFresh number (index + 1) s → Moves s t [] ((number, index) ∷ []) → IsFresh number index t
+pub fresh_once_joined : (number index : ℕ) (s t : Stamps) → AreUnused number (index + 1) s → Moves s t [] ((number, index) ∷ []) → AreUnused number index t
 fresh_once_joined number index s t fresh moves k below =
     let joined = moves (number, k) in
     let one : Bool → ℕ = λ (b : Bool). cond b 1 0 in
     let other : one (is_stamp (number, k) (number, index)) ≡ one false = ap one (other_stamp number index k (λ (same : k ≡ index). absurd (omega (arith, same, below)))) in
     omega (arith, joined, other, fresh k (omega (arith, below)))
 
-pub fresh_once_left : (number index : ℕ) (stamp : ℕ × ℕ) (s t : Stamps) → IsFresh number index s → Moves s t (stamp ∷ []) [] → IsFresh number index t
+pub fresh_once_left : (number index : ℕ) (stamp : ℕ × ℕ) (s t : Stamps) → AreUnused number index s → Moves s t (stamp ∷ []) [] → AreUnused number index t
 fresh_once_left number index stamp s t fresh moves k below = omega (arith, moves (number, k), fresh k below)
 
 -- a stamp that some file has isn't one that none has
@@ -193,14 +193,14 @@ hole_made (Some mark.Holed) = refl
 hole_made (Some mark.Made) = refl
 
 pub taken_marks : (index : ℕ) (pointers : ℕ) (file : HeartFile) → Ascends file.blocks → IsHeartFile file → IsHeartFile (with_taken index pointers file) → Marks (λ k. false) file (with_taken index pointers file)
-taken_marks index pointers file ascends heart heart_behind =
+taken_marks index pointers file ascends heart heart_after =
     let new = with_taken index pointers file in
     let sets = taken_sets index pointers file ascends in
     let found = hole_mark (value_at index file.marks) in
     record {
       kept = λ k. value_once_put (λ value. is_touched_by value ≡ false → (is_touched k file ≡ false) × (block_at k (plain_blocks new) ≡ block_at k (plain_blocks file))) k index found file.marks
           (λ same touched. absurd (true≢false (sym (hole_touches (value_at index file.marks)) ∙ touched)))
-          (λ apart untouched. (untouched, block_of_heart new k heart_behind ∙ sets.others k apart ∙ sym (block_of_heart file k heart)));
+          (λ apart untouched. (untouched, block_of_heart new k heart_after ∙ sets.others k apart ∙ sym (block_of_heart file k heart)));
       made = λ k. value_once_put (λ value. is_made_by value ≡ (is_made k file || false)) k index found file.marks
           (λ same. hole_made (value_at index file.marks) ∙ sym (ap (λ (n : ℕ). is_made n file) same) ∙ or_nothing (is_made k file))
           (λ apart. or_nothing (is_made k file));
@@ -209,10 +209,10 @@ taken_marks index pointers file ascends heart heart_behind =
 
 -- a hole that stays one marks nothing
 pub hole_marks : (index : ℕ) (old new : HeartFile) → IsHeartFile old → IsHeartFile new → Sets index Hole old new → held_at index old ≡ Hole → new.marks ≡ old.marks → Marks (λ k. false) old new
-hole_marks index old new heart heart_behind sets hole marks = record {
+hole_marks index old new heart heart_after sets hole marks = record {
   kept = λ k untouched. (
     ap (λ (all : List (ℕ × Mark)). is_touched_by (value_at k all)) (sym marks) ∙ untouched,
-    block_of_heart new k heart_behind ∙ ⊎_elim
+    block_of_heart new k heart_after ∙ ⊎_elim
         (λ (same : k ≡ index). ap (λ (n : ℕ). held_at n new) same ∙ sets.here ∙ sym hole ∙ ap (λ (n : ℕ). held_at n old) (sym same))
         (λ (apart : k ≢ index). sets.others k apart)
         (cases_eq k index) ∙ sym (block_of_heart old k heart),

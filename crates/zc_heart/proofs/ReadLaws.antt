@@ -1,4 +1,4 @@
--- The bytes of a file by runs of its blocks, and whether it is cut.
+-- The bytes of a file by runs of its blocks, and whether it is trimmed.
 use Rattle.std.proofs.Common.{◌≡◌, ◌≢◌, ℕ, ◌+◌, ◌*◌, ◌/◌, ◌%◌, ◌<◌, ◌≤◌, ◌&&◌, nat_lt, true, false, List, [], ◌++◌, take, drop, length, get_or, refl, sym, ap, ◌∙◌, ⊎_elim, arith}
 use Rattle.std.proofs.lemmas.Bool.{cases_Bool, lt-ltb, le-ltb, and_left}
 use Rattle.std.proofs.lemmas.List.{get_or-take, get_or-drop, length-take, length-drop}
@@ -8,9 +8,9 @@ use Rattle.zc_plain.specs.declared.plain_pool.PlainBlock.{PlainBlock}
 use Rattle.zc_plain.specs.declared.plain_pool.PlainBlock.TheVariants.{Hole}
 use Rattle.zc_plain.specs.PlainPool.{is_made as is_held}
 use Rattle.zc_plain.specs.PlainPool.{blocks_of_size, bytes_of_block, block_at, byte_of}
-use Rattle.zc_plain.specs.Truncated.{is_cut, is_inside}
+use Rattle.zc_plain.specs.Truncated.{is_trimmed, is_inside}
 use Rattle.zc_plain.proofs.Together.{block_by_place}
-use Rattle.zc_plain.proofs.TruncatedLaws.{cut_lies}
+use Rattle.zc_plain.proofs.TruncatedLaws.{trimmed_lies}
 use Rattle.zc_heart.specs.declared.file.HeartFile.{HeartFile}
 use Rattle.zc_heart.specs.Core.{plain_blocks}
 use Rattle.zc_heart.specs.File.{bare}
@@ -58,21 +58,21 @@ read_more file offset n count before behind whole inside within so_far more =
     ∙ ap (λ (back : List ℕ). each n (λ i. byte_of (bare file) (offset + i)) ++ back) run
     ∙ sym (each_append n count (λ i. byte_of (bare file) (offset + i)))
 
--- a file that gets no shorter isn't cut
-pub uncut_past : (old size : ℕ) (blocks : List PlainBlock) (k : ℕ) → old ≤ size → is_cut old size blocks k ≡ false
+-- a file that gets no shorter isn't trimmed
+pub uncut_past : (old size : ℕ) (blocks : List PlainBlock) (k : ℕ) → old ≤ size → is_trimmed old size blocks k ≡ false
 uncut_past old size blocks k past = and_left (nat_lt size old) (is_inside size k && is_held (block_at k blocks)) (le-ltb size old past)
 
 -- nor is one at a block's end
-pub uncut_between : (old size : ℕ) (blocks : List PlainBlock) → size % 4096 ≡ 0 → is_cut old size blocks (size / 4096) ≡ false
+pub uncut_between : (old size : ℕ) (blocks : List PlainBlock) → size % 4096 ≡ 0 → is_trimmed old size blocks (size / 4096) ≡ false
 uncut_between old size blocks whole =
     ⊎_elim
-    (λ (is : is_cut old size blocks (size / 4096) ≡ true). let lies = cut_lies old size blocks (size / 4096) is in absurd (omega (arith, lies.1, whole)))
-    (λ (no : is_cut old size blocks (size / 4096) ≡ false). no)
-    (cases_Bool (is_cut old size blocks (size / 4096)))
+    (λ (is : is_trimmed old size blocks (size / 4096) ≡ true). let lies = trimmed_lies old size blocks (size / 4096) is in absurd (omega (arith, lies.1, whole)))
+    (λ (no : is_trimmed old size blocks (size / 4096) ≡ false). no)
+    (cases_Bool (is_trimmed old size blocks (size / 4096)))
 
--- any other is cut where there is a block
-pub cut_where_held : (old size : ℕ) (blocks : List PlainBlock) → size < old → size % 4096 ≢ 0 → is_cut old size blocks (size / 4096) ≡ is_held (block_at (size / 4096) blocks)
-cut_where_held old size blocks shorter inside =
+-- any other is trimmed where there is a block
+pub trimmed_where_held : (old size : ℕ) (blocks : List PlainBlock) → size < old → size % 4096 ≢ 0 → is_trimmed old size blocks (size / 4096) ≡ is_held (block_at (size / 4096) blocks)
+trimmed_where_held old size blocks shorter inside =
     let begins : size / 4096 * 4096 < size = omega (arith, inside) in
     let ends : size < size / 4096 * 4096 + 4096 = omega arith in
     rw (lt-ltb size old shorter, lt-ltb (size / 4096 * 4096) size begins, lt-ltb size (size / 4096 * 4096 + 4096) ends) refl

@@ -20,7 +20,7 @@ use Rattle.zc_heart.specs.Directory.{is_called, id_of}
 use Rattle.zc_heart.specs.Opening.{read_named, MayFollow}
 use Rattle.zc_heart.proofs.ListLaws.{one_item, no_item, each_of, each_of_two, all_append}
 
--- each item has a lower number than those behind it, and another name
+-- each item has a lower number than those after it, and another name
 abbrev pub IsBefore : {S : Type 0} → (S → ℕ) → (S → List ℕ) → S → S → Type 0
 IsBefore number_of name_of s t = (number_of s < number_of t) × (name_of s ≢ name_of t)
 
@@ -92,7 +92,7 @@ files_in_order least others (file ∷ files) ascend new = (
   files_in_order (file.id + 1) (file.name ∷ others) files ascend.1 new.1,
 )
 
--- a file may be put behind those that come before it
+-- a file may be put after those that come before it
 none_called : (name : List ℕ) (front : List (Named HeartFile)) → AllByRecursion (λ (named : Named HeartFile). is_called name named ≡ false) front → find (is_called name) front ≡ None
 none_called name [] none = refl
 none_called name (named ∷ front) none = (λ i. cond (none.0 i) (Some named) (find (is_called name) front)) ∙ none_called name front none.1
@@ -112,7 +112,7 @@ may_follow found front (file ∷ files) before rises = (
       rises.1,
 )
 
--- ---- datasets, each behind those before it
+-- ---- datasets, each after those before it
 
 -- a test that all pass, and one that none does
 all_pass : {S : Type 0} (test : S → Bool) (ss : List S) (k : ℕ) (s : S) → StandsAt ss k s → IsTrue (list_all test ss) → test s ≡ true
@@ -130,25 +130,25 @@ last_stands : {S : Type 0} (ss : List S) (s : S) → StandsAt (ss ++ s ∷ []) (
 last_stands [] s = refl
 last_stands (t ∷ ss) s = last_stands ss s
 
--- what is known of a dataset and of one behind it
+-- what is known of a dataset and of one after it
 abbrev pub ComesFirst : Dataset → Dataset → Type 0
 ComesFirst s t = (s.id < t.id) × (s.name ≢ t.name) × ((t.slot == s.slot) ≡ false)
 
-behind_it : (devices places group next : ℕ) (others ds : List Dataset) (k : ℕ) (s : Dataset) → StandsAt others k s → AreDatasets devices places group next others ds → AllByRecursion (ComesFirst s) ds
-behind_it devices places group next others [] k s stands are = tt
-behind_it devices places group next others (d ∷ ds) k s stands are = (
+after_it : (devices places group next : ℕ) (others ds : List Dataset) (k : ℕ) (s : Dataset) → StandsAt others k s → AreDatasets devices places group next others ds → AllByRecursion (ComesFirst s) ds
+after_it devices places group next others [] k s stands are = tt
+after_it devices places group next others (d ∷ ds) k s stands are = (
   (
     ltb-true s.id d.id (all_pass (λ (other : Dataset). nat_lt other.id d.id) others k s stands are.1.above),
     other_name s.name d.name (none_passes (λ (other : Dataset). bytes_eq other.name d.name) others k s stands are.1.other_name),
     ne_eqb d.slot s.slot (λ same. eqb-false s.slot d.slot (none_passes (λ (other : Dataset). other.slot == d.slot) others k s stands are.1.other_slot) (sym same)),
   ),
-  behind_it devices places group next (others ++ d ∷ []) ds k s (stands_in_more others (d ∷ []) k s stands) are.2,
+  after_it devices places group next (others ++ d ∷ []) ds k s (stands_in_more others (d ∷ []) k s stands) are.2,
 )
 
 pub datasets_in_order : (devices places group next : ℕ) (others ds : List Dataset) → AreDatasets devices places group next others ds → AreInOrder (λ (d : Dataset). d.id) (λ (d : Dataset). d.name) ds
 datasets_in_order devices places group next others [] are = tt
 datasets_in_order devices places group next others (d ∷ ds) are = (
-  each_of (ComesFirst d) (IsBefore (λ (t : Dataset). t.id) (λ (t : Dataset). t.name) d) ds (λ t first. (first.0, first.1)) (behind_it devices places group next (others ++ d ∷ []) ds (length others) d (last_stands others d) are.2),
+  each_of (ComesFirst d) (IsBefore (λ (t : Dataset). t.id) (λ (t : Dataset). t.name) d) ds (λ t first. (first.0, first.1)) (after_it devices places group next (others ++ d ∷ []) ds (length others) d (last_stands others d) are.2),
   datasets_in_order devices places group next (others ++ d ∷ []) ds are.2,
 )
 
@@ -160,7 +160,7 @@ slots_none d (t ∷ ds) none = or_from (t.slot == d.slot) (list_any (λ other. o
 pub slots_apart : (devices places group next : ℕ) (others ds : List Dataset) → AreDatasets devices places group next others ds → AreApart (map (λ (d : Dataset). d.slot) ds)
 slots_apart devices places group next others [] are = tt
 slots_apart devices places group next others (d ∷ ds) are = (
-  slots_none d ds (each_of (ComesFirst d) (λ (t : Dataset). (t.slot == d.slot) ≡ false) ds (λ t first. first.2) (behind_it devices places group next (others ++ d ∷ []) ds (length others) d (last_stands others d) are.2)),
+  slots_none d ds (each_of (ComesFirst d) (λ (t : Dataset). (t.slot == d.slot) ≡ false) ds (λ t first. first.2) (after_it devices places group next (others ++ d ∷ []) ds (length others) d (last_stands others d) are.2)),
   slots_apart devices places group next (others ++ d ∷ []) ds are.2,
 )
 

@@ -77,7 +77,7 @@ row_of_each {V} g f none n es ascend low =
     flat_mapped g (λ k. f (value_at k es)) (range_with_len 0 n)
     ∙ row (λ slot. g (f slot)) none n 0 es ascend (each_of (λ (x : ℕ × V). x.0 < n) (λ (x : ℕ × V). x.0 < 0 + n) es (λ x below. omega arith) low)
 
--- ---- entries one behind the other
+-- ---- entries one after the other
 
 -- entries that are put in ascending order stand in that order
 pub put_in_order : {V W : Type 0} (f : V → W) (put : List (ℕ × W) → List (ℕ × V) → List (ℕ × W)) → ((front : List (ℕ × W)) → put front [] ≡ front)

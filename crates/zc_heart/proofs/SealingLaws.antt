@@ -28,7 +28,7 @@ use Rattle.zc_heart.specs.Meaning.{Stays, Stands, IsSealed}
 use Rattle.zc_heart.specs.Noted.{noted_in, IsMarked, settled_files, settled_dataset, sealed_of, waiting_of, sealed_core}
 use Rattle.zc_heart.proofs.ListLaws.{each_of, each_of_two, all_append, all_standing, all_at, all_mapped, Rises}
 use Rattle.zc_heart.proofs.MadeLaws.{StandsNow, none_placed}
-use Rattle.zc_heart.proofs.NotedLaws.{datasets_rise, files_rise, facts, noted_stand, noted_once, once_behind_log, stand_as_told, log_stands, noted_placed}
+use Rattle.zc_heart.proofs.NotedLaws.{datasets_rise, files_rise, facts, noted_stand, noted_once, once_after_log, stand_as_told, log_stands, noted_placed}
 use Rattle.zc_heart.proofs.LeadLaws.{leads}
 use Rattle.zc_heart.proofs.SettledLaws.{settled_plain, settled_all, none_touched, heart_file_settled, datasets_before_themselves}
 use Rattle.zc_heart.proofs.TallyLaws.{made_of, group_of, all_in_range, made_pushed, apart_pushed, below_pushed, none_at}
@@ -161,7 +161,7 @@ sealing held core is marked held_is =
       group_is = refl;
       held_is = held_is;
       leads = λ base placing group led. leads core is base placing group led;
-      once = once_behind_log core.log (noted_in core.datasets) is.logged (noted_once core.datasets (datasets_rise core is) marked);
+      once = once_after_log core.log (noted_in core.datasets) is.logged (noted_once core.datasets (datasets_rise core is) marked);
       stand = all_append (Stands pool) core.log (noted_in core.datasets)
           (each_of (λ (change : Change). is_noted change ≡ false) (Stands pool) core.log (λ change free. log_stands pool change free) is.logged)
           (each_of (StandsNow pool) (Stands pool) (noted_in core.datasets) (λ change stands. stand_as_told pool change stands) stand);

@@ -47,7 +47,7 @@ at_means a b found =
     (λ (other : (a < b) ⊎ (b < a)). absurd (true≢false (sym found ∙ at_false a b (λ equal. absurd (⊎_elim (λ (less : a < b). omega arith) (λ (more : b < a). omega arith) other)))))
     (cases_order a b)
 
--- the value of the first entry, and of those behind it
+-- the value of the first entry, and of those after it
 pub value_here : {V : Type 0} (key k : ℕ) (v : V) (es : List (ℕ × V)) → key ≡ k → value_at key ((k, v) ∷ es) ≡ Some v
 value_here key k v es equal = rw (at_true key k equal)
 

@@ -25,14 +25,14 @@ use Rattle.zc_heart.specs.declared.pool_core.Core.{Core}
 use Rattle.zc_heart.specs.Directory.{id_of, is_numbered, is_called, id_called}
 use Rattle.zc_heart.specs.Core.{plain_file, plain_dataset, pool_of}
 use Rattle.zc_heart.specs.Meaning.{dataset_number}
-use Rattle.zc_heart.specs.Deeds.{place_of, dataset_of, files_in, spot_of, file_on}
+use Rattle.zc_heart.specs.Deeds.{dataset_index, dataset_of, files_in, spot_of, file_on}
 use Rattle.zc_heart.proofs.Listing.{stands_in_map, found_in_map, FindsAt, FindsNone, finds, Ascend, found_by_number}
 
 -- ---- datasets
 
 -- the dataset of a name stands at the same place
-pub place_same : (name : List ℕ) (core : Core) → dataset_place name (pool_of core) ≡ place_of name core
-unfolding dataset_place place_of
+pub place_same : (name : List ℕ) (core : Core) → dataset_place name (pool_of core) ≡ dataset_index name core
+unfolding dataset_place dataset_index
 place_same name core = found_in_map plain_dataset (λ (d : PlainDataset). bytes_eq d.name name) 0 core.datasets
 
 pub dataset_same : (name : List ℕ) (core : Core) → answer.dataset_of name (pool_of core) ≡ dataset_of name core
@@ -98,12 +98,12 @@ file_same core place dataset name plain stands =
     (λ (none : FindsNone (is_called name) 0 dataset.files). rw (place_is, none.place, none.found) refl)
     (finds (is_called name) 0 dataset.files)
 
-found_place : (core : Core) (name : List ℕ) (one : FindsAt (λ (d : HeartDataset). bytes_eq d.name name) 0 core.datasets) → place_of name core ≡ Some one.at
-unfolding place_of
+found_place : (core : Core) (name : List ℕ) (one : FindsAt (λ (d : HeartDataset). bytes_eq d.name name) 0 core.datasets) → dataset_index name core ≡ Some one.at
+unfolding dataset_index
 found_place core name one = let at_is : 0 + one.at ≡ one.at = omega arith in one.place ∙ ap Some at_is
 
-no_place : (core : Core) (name : List ℕ) → FindsNone (λ (d : HeartDataset). bytes_eq d.name name) 0 core.datasets → place_of name core ≡ None
-unfolding place_of
+no_place : (core : Core) (name : List ℕ) → FindsNone (λ (d : HeartDataset). bytes_eq d.name name) 0 core.datasets → dataset_index name core ≡ None
+unfolding dataset_index
 no_place core name none = none.place
 
 -- the path and the spot of the names
@@ -114,12 +114,12 @@ paths_same dataset file core plain =
     (⊎_elim
     (λ (one : FindsAt (λ (d : HeartDataset). bytes_eq d.name dataset) 0 core.datasets).
     let at_is : 0 + one.at ≡ one.at = omega arith in
-    let found : place_of dataset core ≡ Some one.at = found_place core dataset one in
+    let found : dataset_index dataset core ≡ Some one.at = found_place core dataset one in
     let is = dataset_is core one.at one.item one.stands in
     let files = files_are core one.at one.item one.stands in
     rw (found, is, files) (file_same core one.at one.item file plain one.stands))
     (λ (none : FindsNone (λ (d : HeartDataset). bytes_eq d.name dataset) 0 core.datasets).
-    let missing : place_of dataset core ≡ None = no_place core dataset none in
+    let missing : dataset_index dataset core ≡ None = no_place core dataset none in
     rw missing refl)
     (finds (λ (d : HeartDataset). bytes_eq d.name dataset) 0 core.datasets))
 
@@ -169,8 +169,8 @@ found_in_image g test (x ∷ xs) =
     (λ (fails : test (g x) ≡ false). rw fails (found_in_image g test xs))
     (cases_Bool (test (g x)))
 
-pub number_of_none : (name : List ℕ) (core : Core) → place_of name core ≡ None → dataset_number name (pool_of core) ≡ None
-unfolding place_of
+pub number_of_none : (name : List ℕ) (core : Core) → dataset_index name core ≡ None → dataset_number name (pool_of core) ≡ None
+unfolding dataset_index
 number_of_none name core missing =
     ⊎_elim
     (λ (one : FindsAt (λ (d : HeartDataset). bytes_eq d.name name) 0 core.datasets). no_item (0 + one.at) (sym missing ∙ one.place))
@@ -179,8 +179,8 @@ number_of_none name core missing =
     ∙ ap (λ (found : Option HeartDataset). option_map (λ (d : PlainDataset). (d.id, true)) (option_map plain_dataset found)) none.found)
     (finds (λ (d : HeartDataset). bytes_eq d.name name) 0 core.datasets)
 
-pub number_of_one : (name : List ℕ) (core : Core) (place : ℕ) (dataset : HeartDataset) → place_of name core ≡ Some place → StandsAt core.datasets place dataset → dataset_number name (pool_of core) ≡ Some (dataset.id, true)
-unfolding place_of
+pub number_of_one : (name : List ℕ) (core : Core) (place : ℕ) (dataset : HeartDataset) → dataset_index name core ≡ Some place → StandsAt core.datasets place dataset → dataset_number name (pool_of core) ≡ Some (dataset.id, true)
+unfolding dataset_index
 number_of_one name core place dataset found stands =
     ⊎_elim
     (λ (one : FindsAt (λ (d : HeartDataset). bytes_eq d.name name) 0 core.datasets).

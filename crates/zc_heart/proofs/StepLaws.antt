@@ -1,4 +1,4 @@
--- Steps that change a file, one behind another: what is kept, marked and counted over them.
+-- Steps that change a file, one after another: what is kept, marked and counted over them.
 use Rattle.std.proofs.Common.{◌≡◌, ℕ, ◌≤◌, ◌||◌, Bool, true, false, List, [], Option, Some, None, refl, sym, ap, subst, ◌∙◌, arith}
 use Rattle.std.specs.Prelude.{Result, Ok, Err, OnErr, count_by, flat_map, is_some, IsSome}
 use Rattle.std.proofs.lemmas.Bool.{false≢true}

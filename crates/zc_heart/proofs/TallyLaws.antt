@@ -7,7 +7,7 @@ use Rattle.std.proofs.lemmas.List.Sums.{sum_by-cons, count_by-le-length, length-
 use Rattle.std.proofs.lemmas.Map.Views.{any-filter_same}
 use Rattle.zc_num.specs.Words.{found_from}
 use Rattle.zc_plain.specs.declared.tally.MadeBlock.{MadeBlock}
-use Rattle.zc_plain.specs.Charge.{is_block, seals_behind, seals_up_to, is_behind}
+use Rattle.zc_plain.specs.Charge.{is_block, seals_after, seals_up_to, is_after}
 use Rattle.zc_heart.specs.declared.pool_core.WaitingGroup.{WaitingGroup}
 use Rattle.zc_heart.specs.Core.{AreMade, AreApart}
 use Rattle.zc_heart.proofs.ListLaws.{each_of, all_append, none_append, none_of}
@@ -48,7 +48,7 @@ count_all p (block ∷ made) all =
 
 -- ---- the groups that wait
 
--- the block was made behind one of the seals that wait, or in the open group
+-- the block was made after one of the seals that wait, or in the open group
 abbrev is_among : ℕ → List WaitingGroup → MadeBlock → Bool
 is_among from [] block = block.seals == from
 is_among from (one ∷ waiting) block = (block.seals == from) || is_among (from + 1) waiting block
@@ -84,7 +84,7 @@ among_counted from (one ∷ waiting) current made are =
     (λ (block : MadeBlock). not_both (block.seals == from) (is_among (from + 1) waiting block) (λ here. false_from_ne_true (is_among (from + 1) waiting block) (λ later. absurd (omega (arith, eqb-true block.seals from here, (among_means (from + 1) waiting block later).0))))) made in
     omega (arith, two, are.0, among_counted (from + 1) waiting current made are.1, sum_by-cons made_of one waiting)
 
--- so none was made before them or behind them
+-- so none was made before them or after them
 pub all_in_range : (from : ℕ) (waiting : List WaitingGroup) (current : ℕ) (made : List MadeBlock) → AreMade from waiting current made → length made ≡ sum_by made_of waiting + current
     → AllByRecursion (λ (block : MadeBlock). (from ≤ block.seals) × (block.seals ≤ from + length waiting)) made
 all_in_range from waiting current made are whole =
@@ -94,7 +94,7 @@ all_in_range from waiting current made are whole =
 
 -- ---- a seal
 
--- one more group waits, and nothing was made behind it
+-- one more group waits, and nothing was made after it
 pub made_pushed : (from : ℕ) (waiting : List WaitingGroup) (current : ℕ) (made : List MadeBlock) (waits : WaitingGroup) → AreMade from waiting current made → AllByRecursion (λ (block : MadeBlock). block.seals ≤ from + length waiting) made → waits.made ≡ current
     → AreMade from (waiting ++ waits ∷ []) 0 made
 made_pushed from [] current made waits are low all =
@@ -113,7 +113,7 @@ apart_pushed (one ∷ numbers) number apart below =
 pub below_pushed : (numbers : List ℕ) (number : ℕ) → AllByRecursion (λ one. one < number) numbers → AllByRecursion (λ one. one < number + 1) (numbers ++ number ∷ [])
 below_pushed numbers number below = all_append (λ one. one < number + 1) numbers (number ∷ []) (each_of (λ one. one < number) (λ one. one < number + 1) numbers (λ one low. omega arith) below) (omega arith, tt)
 
--- no block was made behind so many seals
+-- no block was made after so many seals
 pub none_at : (seals dataset file k : ℕ) (made : List MadeBlock) → AllByRecursion (λ (block : MadeBlock). block.seals < seals) made
     → list_any (is_block (record { seals = seals; dataset = dataset; file = file; block = k })) made ≡ false
 none_at seals dataset file k made below =
@@ -124,25 +124,25 @@ none_at seals dataset file k made below =
 -- ---- a finished group
 
 -- what is no item of a list fails
-none_behind : {X : Type 0} (test : X → Bool) (xs : List X) (y : X) (ys : List X) → list_any test (xs ++ y ∷ ys) ≡ false → test y ≡ false
-none_behind test [] y ys none = (or_parts (test y) (list_any test ys) none).0
-none_behind test (x ∷ xs) y ys none = none_behind test xs y ys (or_parts (test x) (list_any test (xs ++ y ∷ ys)) none).1
+none_later : {X : Type 0} (test : X → Bool) (xs : List X) (y : X) (ys : List X) → list_any test (xs ++ y ∷ ys) ≡ false → test y ≡ false
+none_later test [] y ys none = (or_parts (test y) (list_any test ys) none).0
+none_later test (x ∷ xs) y ys none = none_later test xs y ys (or_parts (test x) (list_any test (xs ++ y ∷ ys)) none).1
 
--- a number that is none of those before it is found behind them
-found_behind : (k : ℕ) (finished : List ℕ) (group : ℕ) (rest : List ℕ) → AreApart (finished ++ group ∷ rest) → found_from (λ one. one == group) k (finished ++ group ∷ rest) ≡ Some (k + length finished)
-found_behind k [] group rest apart =
+-- a number that is none of those before it is found after them
+found_after : (k : ℕ) (finished : List ℕ) (group : ℕ) (rest : List ℕ) → AreApart (finished ++ group ∷ rest) → found_from (λ one. one == group) k (finished ++ group ∷ rest) ≡ Some (k + length finished)
+found_after k [] group rest apart =
     let at : k ≡ k + 0 = omega arith in
     (λ i. cond (eq-eqb group group refl i) (Some k) (found_from (λ one. one == group) (k + 1) rest)) ∙ (λ i. Some (at i))
-found_behind k (x ∷ finished) group rest apart =
-    let other : (x == group) ≡ false = ne_eqb x group (λ same. true≢false (sym (eq-eqb group x (sym same)) ∙ none_behind (λ one. one == x) finished group rest apart.0)) in
+found_after k (x ∷ finished) group rest apart =
+    let other : (x == group) ≡ false = ne_eqb x group (λ same. true≢false (sym (eq-eqb group x (sym same)) ∙ none_later (λ one. one == x) finished group rest apart.0)) in
     let at : (k + 1) + length finished ≡ k + length (x ∷ finished) = let long : length (x ∷ finished) ≡ suc (length finished) = refl in omega (arith, long) in
-    (λ i. cond (other i) (Some k) (found_from (λ one. one == group) (k + 1) (finished ++ group ∷ rest))) ∙ found_behind (k + 1) finished group rest apart.1 ∙ (λ i. Some (at i))
+    (λ i. cond (other i) (Some k) (found_from (λ one. one == group) (k + 1) (finished ++ group ∷ rest))) ∙ found_after (k + 1) finished group rest apart.1 ∙ (λ i. Some (at i))
 
 pub seals_are : (sealed finished rest : List ℕ) (group : ℕ) → sealed ≡ finished ++ group ∷ rest → AreApart sealed → seals_up_to group sealed ≡ length finished + 1
 unfolding seals_up_to
 seals_are sealed finished rest group is apart =
-    let found = found_behind 0 finished group rest (subst AreApart is apart) in
-    (λ i. seals_behind (found_from (λ (one : ℕ). one == group) 0 (is i))) ∙ ap seals_behind found ∙ omega arith
+    let found = found_after 0 finished group rest (subst AreApart is apart) in
+    (λ i. seals_after (found_from (λ (one : ℕ). one == group) 0 (is i))) ∙ ap seals_after found ∙ omega arith
 
 -- what a filter keeps
 count_kept : (p keep : MadeBlock → Bool) → ((block : MadeBlock) → p block ≡ true → keep block ≡ true) → (made : List MadeBlock) → count_by p (filter keep made) ≡ count_by p made
@@ -155,16 +155,16 @@ count_kept p keep kept (block ∷ made) = by (count_kept p keep kept made) (keep
       let none : cond {A = ℕ} (p block) 1 0 ≡ 0 = ap (λ (b : Bool). cond {A = ℕ} b 1 0) fails in
       omega (arith, count_cons p block made, rest, none)
 
-made_kept : (n from : ℕ) (waiting : List WaitingGroup) (current : ℕ) (made : List MadeBlock) → n ≤ from → AreMade from waiting current made → AreMade from waiting current (filter (is_behind n) made)
-made_kept n from [] current made least are = count_kept (is_from from) (is_behind n) (λ (block : MadeBlock) here. le-leb n block.seals (omega (arith, eqb-true block.seals from here))) made ∙ are
+made_kept : (n from : ℕ) (waiting : List WaitingGroup) (current : ℕ) (made : List MadeBlock) → n ≤ from → AreMade from waiting current made → AreMade from waiting current (filter (is_after n) made)
+made_kept n from [] current made least are = count_kept (is_from from) (is_after n) (λ (block : MadeBlock) here. le-leb n block.seals (omega (arith, eqb-true block.seals from here))) made ∙ are
 made_kept n from (one ∷ waiting) current made least are =
-    (count_kept (is_from from) (is_behind n) (λ (block : MadeBlock) here. le-leb n block.seals (omega (arith, eqb-true block.seals from here))) made ∙ are.0, made_kept n (from + 1) waiting current made (omega arith) are.1)
+    (count_kept (is_from from) (is_after n) (λ (block : MadeBlock) here. le-leb n block.seals (omega (arith, eqb-true block.seals from here))) made ∙ are.0, made_kept n (from + 1) waiting current made (omega arith) are.1)
 
--- what was made in the first group or behind it
-first_or_behind : (from : ℕ) (made : List MadeBlock) → AllByRecursion (λ (block : MadeBlock). from ≤ block.seals) made → count_by (is_from from) made + count_by (is_behind (from + 1)) made ≡ length made
-first_or_behind from [] least = refl
-first_or_behind from (block ∷ made) least =
-    let one : cond {A = ℕ} (is_from from block) 1 0 + cond {A = ℕ} (is_behind (from + 1) block) 1 0 ≡ 1 =
+-- what was made in the first group or after it
+first_or_after : (from : ℕ) (made : List MadeBlock) → AllByRecursion (λ (block : MadeBlock). from ≤ block.seals) made → count_by (is_from from) made + count_by (is_after (from + 1)) made ≡ length made
+first_or_after from [] least = refl
+first_or_after from (block ∷ made) least =
+    let one : cond {A = ℕ} (is_from from block) 1 0 + cond {A = ℕ} (is_after (from + 1) block) 1 0 ≡ 1 =
     ⊎_elim
     (λ (same : block.seals ≡ from). (λ i. cond {A = ℕ} (eq-eqb block.seals from same i) 1 0 + cond {A = ℕ} (lt-leb (from + 1) block.seals (omega (arith, same)) i) 1 0))
     (λ (other : (block.seals < from) ⊎ (from < block.seals)). ⊎_elim
@@ -173,22 +173,22 @@ first_or_behind from (block ∷ made) least =
     other)
     (cases_order block.seals from) in
     let long : length (block ∷ made) ≡ suc (length made) = refl in
-    omega (arith, one, long, count_cons (is_from from) block made, count_cons (is_behind (from + 1)) block made, first_or_behind from made least.1)
+    omega (arith, one, long, count_cons (is_from from) block made, count_cons (is_after (from + 1)) block made, first_or_after from made least.1)
 
--- the groups that wait behind the first
-pub made_behind_first : (from : ℕ) (waits : WaitingGroup) (others : List WaitingGroup) (current : ℕ) (made : List MadeBlock) → AreMade from (waits ∷ others) current made → AreMade (from + 1) others current (filter (is_behind (from + 1)) made)
-made_behind_first from waits others current made are = made_kept (from + 1) (from + 1) others current made (omega arith) are.1
+-- the groups that wait after the first
+pub made_after_first : (from : ℕ) (waits : WaitingGroup) (others : List WaitingGroup) (current : ℕ) (made : List MadeBlock) → AreMade from (waits ∷ others) current made → AreMade (from + 1) others current (filter (is_after (from + 1)) made)
+made_after_first from waits others current made are = made_kept (from + 1) (from + 1) others current made (omega arith) are.1
 
-pub whole_behind_first : (from : ℕ) (waits : WaitingGroup) (others : List WaitingGroup) (current : ℕ) (made : List MadeBlock) → AreMade from (waits ∷ others) current made → length made ≡ sum_by made_of (waits ∷ others) + current
-    → length (filter (is_behind (from + 1)) made) ≡ sum_by made_of others + current
-whole_behind_first from waits others current made are whole =
+pub whole_after_first : (from : ℕ) (waits : WaitingGroup) (others : List WaitingGroup) (current : ℕ) (made : List MadeBlock) → AreMade from (waits ∷ others) current made → length made ≡ sum_by made_of (waits ∷ others) + current
+    → length (filter (is_after (from + 1)) made) ≡ sum_by made_of others + current
+whole_after_first from waits others current made are whole =
     let range = all_in_range from (waits ∷ others) current made are whole in
     let least = each_of (λ (block : MadeBlock). (from ≤ block.seals) × (block.seals ≤ from + length (waits ∷ others))) (λ (block : MadeBlock). from ≤ block.seals) made (λ block within. within.0) range in
-    omega (arith, length-filter (is_behind (from + 1)) made, first_or_behind from made least, are.0, whole, sum_by-cons made_of waits others)
+    omega (arith, length-filter (is_after (from + 1)) made, first_or_after from made least, are.0, whole, sum_by-cons made_of waits others)
 
-pub any_behind : (from : ℕ) (block : MadeBlock) (made : List MadeBlock) → from ≤ block.seals → list_any (is_block block) (filter (is_behind from) made) ≡ list_any (is_block block) made
-any_behind from block made least =
-    any-filter_same (is_block block) (is_behind from) true
+pub any_after : (from : ℕ) (block : MadeBlock) (made : List MadeBlock) → from ≤ block.seals → list_any (is_block block) (filter (is_after from) made) ≡ list_any (is_block block) made
+any_after from block made least =
+    any-filter_same (is_block block) (is_after from) true
     (λ other same. le-leb from other.seals (omega (arith, least, eqb-true block.seals other.seals (and_parts (block.seals == other.seals) ((block.dataset == other.dataset) && ((block.file == other.file) && (block.block == other.block))) same).0)))
     made
 

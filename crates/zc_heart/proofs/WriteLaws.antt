@@ -10,13 +10,13 @@ use Rattle.zc_plain.specs.declared.plain_pool.PlainBlock.TheVariants.{Hole, Made
 use Rattle.zc_plain.specs.PlainPool.{blocks_of_size, bytes_of_block, block_at, made_count}
 use Rattle.zc_plain.specs.Putting.{touched_count}
 use Rattle.zc_plain.specs.Written.{touches, start_in, part_in, made_block, written_block, written}
-use Rattle.zc_plain.proofs.Together.{touched, untouched_before, untouched_behind}
+use Rattle.zc_plain.proofs.Together.{touched, untouched_before, untouched_after}
 use Rattle.zc_heart.specs.declared.file.HeartFile.{HeartFile}
 use Rattle.zc_heart.specs.declared.stamps.Stamps.{Stamps}
 use Rattle.zc_heart.specs.Core.{plain_blocks, is_made, IsHeartFile}
 use Rattle.zc_heart.specs.File.{bare, StaysCounted, Marks, CountsChange, Writes}
 use Rattle.zc_heart.specs.Steps.{held_at, KeepsAll, Sets, PutsAll, is_within, written_bytes, with_size}
-use Rattle.zc_heart.proofs.HeldLaws.{Weighs, block_of_heart, measure_behind, stamped_in, stamped_by, stamps_weigh, pointer_of, pointers_weigh}
+use Rattle.zc_heart.proofs.HeldLaws.{Weighs, block_of_heart, measure_after, stamped_in, stamped_by, stamps_weigh, pointer_of, pointers_weigh}
 use Rattle.zc_heart.proofs.StepLaws.{or_nothing, kept_heart, marks_on, marks_as, marks_kept, marks_same, counts_on, counts_stay, counts_kept, stays_same}
 
 -- ---- a size that is set
@@ -26,11 +26,11 @@ measured_sized : (measure : List PlainBlock → ℕ) (weight : PlainBlock → �
     → measure (each n f) ≡ measure (each m f)
 measured_sized measure weight weighs f m n weightless past_m past_n =
     ⊎_elim
-    (λ (shorter : n < m). sym (measure_behind measure weight weighs f n m (omega (arith, shorter)) (λ k far. ap weight (past_n k far) ∙ weightless)))
-    (λ (longer : m ≤ n). measure_behind measure weight weighs f m n longer (λ k far. ap weight (past_m k far) ∙ weightless))
+    (λ (shorter : n < m). sym (measure_after measure weight weighs f n m (omega (arith, shorter)) (λ k far. ap weight (past_n k far) ∙ weightless)))
+    (λ (longer : m ≤ n). measure_after measure weight weighs f m n longer (λ k far. ap weight (past_m k far) ∙ weightless))
     (cases_lt n m)
 
--- no block stands behind the size
+-- no block stands after the size
 abbrev pub IsPast : ℕ → HeartFile → Type 0
 IsPast size file = (k : ℕ) → blocks_of_size size ≤ k → held_at k file ≡ Hole
 
@@ -130,7 +130,7 @@ touched_within offset len k some =
     (λ (until : k < end).
     and_from (nat_le first k) (nat_lt k end) (le-leb first k from) (lt-ltb k end until) ∙ sym (touched offset len k some from (omega (arith, until, ends))))
     (λ (behind : end ≤ k).
-    and_right (nat_le first k) (nat_lt k end) (le-ltb k end behind) ∙ sym (untouched_behind offset len k (omega (arith, behind, ends))))
+    and_right (nat_le first k) (nat_lt k end) (le-ltb k end behind) ∙ sym (untouched_after offset len k (omega (arith, behind, ends))))
     (cases_lt k end))
     (cases_lt k first)
 
@@ -182,7 +182,7 @@ block_written number offset bytes made old roomy sized new s t u is k =
     is.puts.put k from until ∙ ap (λ (all : List ℕ). Made number k all) item
     ∙ ap (λ (block : PlainBlock). Made number k (edited (bytes_of_block block) (start_in k offset) (part_in k offset bytes))) (sym before)
     ∙ sym (made_where_touched number offset bytes blocks k (touched offset (length bytes) k is.some from (omega (arith, until, many)))))
-    (λ (behind : first + length made ≤ k). untouched (untouched_behind offset (length bytes) k (omega (arith, behind, many))) (inr behind))
+    (λ (behind : first + length made ≤ k). untouched (untouched_after offset (length bytes) k (omega (arith, behind, many))) (inr behind))
     (cases_lt k (first + length made)))
     (cases_lt k first)
 

@@ -38,7 +38,7 @@ in_dataset dataset change tree = record tree { datasets = change_by number_of_da
 abbrev pub in_file : ℕ → ℕ → (File → File) → Tree → Tree
 in_file dataset file change tree = in_dataset dataset (λ found. record found { files = change_by number_of_file file change found.files }) tree
 
--- the tree with a new dataset, and the dataset with a new file: the next number is the one behind theirs
+-- the tree with a new dataset, and the dataset with a new file: the next number is the one after theirs
 abbrev pub with_dataset : (id slot : ℕ) → List ℕ → Tree → Tree
 with_dataset id slot name tree =
     record tree { next_dataset = id + 1; datasets = tree.datasets ++ record { id = id; slot = slot; name = name; next_file = 1; log = Normal; files = [] } ∷ [] }
@@ -88,14 +88,14 @@ is_noted (DropFile dataset file) = false
 is_noted (Size dataset file size) = true
 is_noted (Put dataset file block now) = true
 
--- the pointers that are left behind a change
-abbrev pub left_behind : Change → List Ptr → List Ptr
-left_behind change ptrs = if is_made change then drop 1 ptrs else ptrs
+-- the pointers that are left after a change
+abbrev pub left_after : Change → List Ptr → List Ptr
+left_after change ptrs = if is_made change then drop 1 ptrs else ptrs
 
 -- the tree with the changes made in their order: each that puts bytes takes the next of the pointers
 abbrev pub made_in : List Change → List Ptr → Tree → Tree
 made_in [] ptrs tree = tree
-made_in (change ∷ changes) ptrs tree = made_in changes (left_behind change ptrs) (changed change (first_of ptrs) tree)
+made_in (change ∷ changes) ptrs tree = made_in changes (left_after change ptrs) (changed change (first_of ptrs) tree)
 
 -- ---- the tree of a plain pool
 

@@ -83,14 +83,14 @@ made_waiting core = sum_by (λ (one : WaitingGroup). one.made) core.waiting
 abbrev pub charge : Core → ℕ
 charge core = core.held + (made_waiting core + core.made)
 
--- how many of the blocks were made behind so many seals
-abbrev pub made_behind : ℕ → List MadeBlock → ℕ
-made_behind seals made = count_by (λ (block : MadeBlock). block.seals == seals) made
+-- how many of the blocks were made after so many seals
+abbrev pub made_after : ℕ → List MadeBlock → ℕ
+made_after seals made = count_by (λ (block : MadeBlock). block.seals == seals) made
 
 -- group after group, from this many seals on, the numbers are those that are kept; the open group is the last
 abbrev pub AreMade : (seals : ℕ) → List WaitingGroup → (current : ℕ) → List MadeBlock → Type 0
-AreMade seals [] current made = made_behind seals made ≡ current
-AreMade seals (one ∷ waiting) current made = (made_behind seals made ≡ one.made) × AreMade (seals + 1) waiting current made
+AreMade seals [] current made = made_after seals made ≡ current
+AreMade seals (one ∷ waiting) current made = (made_after seals made ≡ one.made) × AreMade (seals + 1) waiting current made
 
 -- the block was made in the open group
 abbrev pub made_now : Tally → ℕ → ℕ → ℕ → Bool
@@ -175,7 +175,7 @@ pub record IsHeartFile (file : HeartFile) : Type 0 where
   pub ends : (k : ℕ) → blocks_of_size file.size ≤ k → plain_block (value_at k file.blocks) ≡ Hole
   pub pointers : file.pointers ≡ made_count (plain_blocks file)
 
--- no block was made by a command behind this one
+-- no block was made by a command after this one
 abbrev pub IsMadeBy : ℕ → PlainBlock → Type 0
 IsMadeBy last Hole = Unit {0}
 IsMadeBy last (Made entry index bytes) = entry ≤ last

@@ -23,7 +23,7 @@ use Rattle.zc_plain.specs.PlainPool.{dataset_at, with_new_dataset, with_new_file
 use Rattle.zc_plain.specs.IsPlain.{IsPlainFile}
 use Rattle.zc_plain.specs.Putting.{first_touched, touched_count}
 use Rattle.zc_plain.specs.Written.{written}
-use Rattle.zc_plain.specs.Truncated.{is_cut, truncated}
+use Rattle.zc_plain.specs.Truncated.{is_trimmed, truncated}
 use Rattle.zc_plain.specs.Charge.{is_stamp, stamp_of, blocks_made, with_blocks}
 use Rattle.zc_plain.specs.Answer.{◌>>=◌, refuse_if, refuse_long, refuse_end, refuse_pointers, most_datasets, most_files, most_charge, most_read, holes_touched}
 use Rattle.zc_heart.specs.declared.changes.Change.{Change}
@@ -45,12 +45,12 @@ use Rattle.zc_heart.specs.Meaning.{Stays, Commands}
 -- ---- where things stand
 
 -- the place of the dataset of the name
-unfoldable pub place_of : List ℕ → Core → Option ℕ
-place_of name core = found_from (λ (dataset : HeartDataset). bytes_eq dataset.name name) 0 core.datasets
+unfoldable pub dataset_index : List ℕ → Core → Option ℕ
+dataset_index name core = found_from (λ (dataset : HeartDataset). bytes_eq dataset.name name) 0 core.datasets
 
 -- the place of a dataset that has to be there
 unfoldable pub dataset_of : List ℕ → Core → Result ℕ Refusal
-dataset_of name core = ok_or (place_of name core) (Enoent part.Dataset)
+dataset_of name core = ok_or (dataset_index name core) (Enoent part.Dataset)
 
 -- the files of a dataset, none where there is no dataset
 abbrev pub files_of : Option HeartDataset → List (Named HeartFile)
@@ -94,12 +94,12 @@ made_on spot core = said_of 0 (λ file. file.pointers) (file_on spot core)
 abbrev pub unmade_on : ℕ → ℕ → Spot → Core → ℕ
 unmade_on first count spot core = said_of 0 (unmade_in first count) (file_on spot core)
 
--- how many of its blocks are cut where it gets the size
-abbrev pub cut_count : ℕ → HeartFile → ℕ
-cut_count size file = if is_cut file.size size (plain_blocks file) (size / 4096) then 1 else 0
+-- how many of its blocks are trimmed where it gets the size
+abbrev pub trimmed_count : ℕ → HeartFile → ℕ
+trimmed_count size file = if is_trimmed file.size size (plain_blocks file) (size / 4096) then 1 else 0
 
-abbrev pub cut_on : ℕ → Spot → Core → ℕ
-cut_on size spot core = said_of 0 (cut_count size) (file_on spot core)
+abbrev pub trimmed_on : ℕ → Spot → Core → ℕ
+trimmed_on size spot core = said_of 0 (trimmed_count size) (file_on spot core)
 
 -- how many pointers a dataset has
 abbrev pub pointers_of : Option HeartDataset → ℕ
@@ -132,25 +132,25 @@ with_file_changed id change dataset = record dataset { files = change_by number_
 abbrev pub without_numbered : ℕ → PlainDataset → PlainDataset
 without_numbered id dataset = record dataset { files = without number_of id dataset.files }
 
--- the plain pool behind a deed
-abbrev pub pool_behind : Deed → PlainPool → PlainPool
-pool_behind Nothing pool = pool
-pool_behind (AddDataset name) pool = with_new_dataset name pool
-pool_behind (DropDataset place) pool = without_dataset place pool
-pool_behind (AddFile place name) pool = in_dataset place (with_new_file name) pool
-pool_behind (DropFile spot) pool = in_dataset spot.place (without_numbered spot.id) pool
-pool_behind (PutBytes number spot offset bytes) pool = in_dataset spot.place (with_file_changed spot.id (written number offset bytes)) pool
-pool_behind (SetSize number spot size) pool = in_dataset spot.place (with_file_changed spot.id (truncated number size)) pool
+-- the plain pool after a deed
+abbrev pub pool_after_command : Deed → PlainPool → PlainPool
+pool_after_command Nothing pool = pool
+pool_after_command (AddDataset name) pool = with_new_dataset name pool
+pool_after_command (DropDataset place) pool = without_dataset place pool
+pool_after_command (AddFile place name) pool = in_dataset place (with_new_file name) pool
+pool_after_command (DropFile spot) pool = in_dataset spot.place (without_numbered spot.id) pool
+pool_after_command (PutBytes number spot offset bytes) pool = in_dataset spot.place (with_file_changed spot.id (written number offset bytes)) pool
+pool_after_command (SetSize number spot size) pool = in_dataset spot.place (with_file_changed spot.id (truncated number size)) pool
 
--- the number of the last command that made a block, behind a deed
-abbrev pub last_behind : Deed → ℕ → ℕ
-last_behind Nothing last = last
-last_behind (AddDataset name) last = last
-last_behind (DropDataset place) last = last
-last_behind (AddFile place name) last = last
-last_behind (DropFile spot) last = last
-last_behind (PutBytes number spot offset bytes) last = number
-last_behind (SetSize number spot size) last = number
+-- the number of the last command that made a block, after a deed
+abbrev pub last_later : Deed → ℕ → ℕ
+last_later Nothing last = last
+last_later (AddDataset name) last = last
+last_later (DropDataset place) last = last
+last_later (AddFile place name) last = last
+last_later (DropFile spot) last = last
+last_later (PutBytes number spot offset bytes) last = number
+last_later (SetSize number spot size) last = number
 
 -- so many blocks of the file that stands there from the first on, made now
 abbrev pub blocks_there : Tally → ℕ → ℕ → Spot → Core → List MadeBlock
@@ -164,15 +164,15 @@ blocks_by tally (DropDataset place) core = []
 blocks_by tally (AddFile place name) core = []
 blocks_by tally (DropFile spot) core = []
 blocks_by tally (PutBytes number spot offset bytes) core = blocks_there tally (first_touched offset) (touched_count offset (length bytes)) spot core
-blocks_by tally (SetSize number spot size) core = blocks_there tally (size / 4096) (cut_on size spot core) spot core
+blocks_by tally (SetSize number spot size) core = blocks_there tally (size / 4096) (trimmed_on size spot core) spot core
 
 -- What a deed makes of a heart.
 pub record Becomes (deed : Deed) (old new : Core) : Type 0 where
   pub is : IsCore new
-  pub pool : pool_of new ≡ pool_behind deed (pool_of old)
+  pub pool : pool_of new ≡ pool_after_command deed (pool_of old)
   pub agrees : (tally : Tally) → Agrees tally old → Agrees (with_blocks (blocks_by tally deed old) tally) new
   pub commands : Commands old new
-  pub last : new.last ≡ last_behind deed old.last
+  pub last : new.last ≡ last_later deed old.last
 
 -- nothing leaves the heart as it was
 abbrev pub Does : Deed → Core → Core → Type 0
@@ -199,7 +199,7 @@ Gives old new reply (Err refusal) = (reply ≡ No refusal) × (new ≡ old)
 -- a new dataset
 unfoldable pub mkds : List ℕ → Core → Result (Reply × Deed) Refusal
 mkds dataset core = do
-  _ ← refuse_if (is_some (place_of dataset core)) Eexist
+  _ ← refuse_if (is_some (dataset_index dataset core)) Eexist
   _ ← refuse_if (nat_lt most_datasets (length core.datasets + 1)) (Enospc what.Datasets (length core.datasets + 1) most_datasets)
   Ok (Done, AddDataset dataset)
 
@@ -261,7 +261,7 @@ unfoldable pub truncate : ℕ → List ℕ → List ℕ → ℕ → Core → Res
 truncate number dataset file size core = do
   spot ← spot_of dataset file core
   _ ← refuse_end size (pool_of core)
-  _ ← refuse_charge (unmade_on (size / 4096) (cut_on size spot core) spot core) core
+  _ ← refuse_charge (unmade_on (size / 4096) (trimmed_on size spot core) spot core) core
   Ok (Done, SetSize number spot size)
 
 -- the bytes from the offset on
@@ -277,7 +277,7 @@ stat dataset file core = do
   spot ← spot_of dataset file core
   Ok (Size (size_on spot core) (made_on spot core), Nothing)
 
--- behind the names each command has its own refusals
+-- after the names each command has its own refusals
 abbrev pub named_answer : ℕ → Core → Command → Result (Reply × Deed) Refusal
 named_answer number core (Mkds dataset) = mkds dataset core
 named_answer number core (Rmds dataset) = rmds dataset core

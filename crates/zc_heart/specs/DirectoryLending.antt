@@ -6,6 +6,6 @@ use Rattle.zc_heart.specs.contracts.directory.Directory.{the_row}
 use Rattle.zc_heart.specs.Changes.{change_by}
 use Rattle.zc_heart.specs.Directory.{id_of, with_value}
 
--- the directory ends with the last value behind r as that of the number
+-- the directory ends with the last value after r as that of the number
 abbrev pub LendsValueOf : (V : RattleType) → MutBor (List (Named V.Denot)) → ℕ → MutBor V.Denot → Fml
 LendsValueOf V directory id r = Lends (the_row V) V directory r (λ value. change_by id_of id (with_value value) directory.now)

@@ -5,7 +5,7 @@ use Rattle.zc_plain.specs.declared.plain_pool.PlainFile.{PlainFile}
 use Rattle.zc_plain.specs.PlainPool.{block_at}
 use Rattle.zc_plain.specs.Charge.{is_stamp, stamp_of}
 use Rattle.zc_plain.specs.Written.{touches, written}
-use Rattle.zc_plain.specs.Truncated.{is_cut, truncated}
+use Rattle.zc_plain.specs.Truncated.{is_trimmed, truncated}
 use Rattle.zc_heart.specs.declared.file.HeartFile.{HeartFile}
 use Rattle.zc_heart.specs.declared.stamps.Stamps.{Stamps}
 use Rattle.zc_heart.specs.Core.{plain_blocks, is_touched, is_made}
@@ -50,7 +50,7 @@ pub record Writes (number offset : ℕ) (bytes : List ℕ) (old new : HeartFile)
 -- The file's size was set.
 pub record Truncates (number size : ℕ) (old new : HeartFile) : Type 0 where
   pub file : bare new ≡ truncated number size (bare old)
-  pub marks : Marks (is_cut old.size size (plain_blocks old)) old new
+  pub marks : Marks (is_trimmed old.size size (plain_blocks old)) old new
 
 -- The stamps are counted as the file changed, and nothing was learnt of where blocks are.
 pub record CountsChange (old new : Stamps) (file changed : HeartFile) : Type 0 where

@@ -24,7 +24,7 @@ use Rattle.zc_plain.specs.declared.tally.Tally.{Tally}
 use Rattle.zc_plain.specs.PlainPool.{blocks_of_size, block_at, byte_of}
 use Rattle.zc_plain.specs.Charge.{held_by, tally_of, with_seal, with_finish}
 use Rattle.zc_plain.specs.Answer.{answer, settled}
-use Rattle.zc_plain.specs.History.{tally_behind}
+use Rattle.zc_plain.specs.History.{tally_after}
 use Rattle.zc_heart.specs.declared.changes.Now.{Now}
 use Rattle.zc_heart.specs.declared.changes.Now.TheVariants as now
 use Rattle.zc_heart.specs.declared.changes.Change.{Change}
@@ -57,7 +57,7 @@ pub record Stays (old new : Core) : Type 0 where
 -- the reply and the next pool are those of plain files, whatever the charge is counted from; where memory was wanting all stays
 abbrev pub Replies : (number : ℕ) → Command → Core → Core → Result Reply AllocError → Type 0
 Replies number command old new (Ok reply) =
-    (tally : Tally) → Agrees tally old → (settled (pool_of old) (answer number tally (pool_of old) command) ≡ (reply, pool_of new)) × Agrees (tally_behind number tally (pool_of old) command) new
+    (tally : Tally) → Agrees tally old → (settled (pool_of old) (answer number tally (pool_of old) command) ≡ (reply, pool_of new)) × Agrees (tally_after number tally (pool_of old) command) new
 Replies number command old new (Err fault) = Stays old new
 
 -- the reply has bytes in it
@@ -203,7 +203,7 @@ found_dataset blocks dataset = record { id = dataset.id; name = dataset.name; ne
 abbrev pub found_pool : Limits → Tree → List HeartBlock → PlainPool
 found_pool limits tree blocks = record { limits = limits; next_dataset = tree.next_dataset; datasets = map (found_dataset blocks) tree.datasets }
 
--- every byte behind a file's size is 0
+-- every byte after a file's size is 0
 abbrev pub IsZeroPast : PlainFile → Type 0
 IsZeroPast file = (i : ℕ) → file.size ≤ i → byte_of file i ≡ 0
 

@@ -96,7 +96,7 @@ read_core found limits tree stamps held = record {
 abbrev pub HasBlocks : List (ℕ × List ℕ) → File → Type 0
 HasBlocks found file = AllByRecursion (λ (slot : ℕ × Ptr). IsThere found slot.1) file.slots
 
--- each file may be put behind those before it: its number is above theirs, and none has its name
+-- each file may be put after those before it: its number is above theirs, and none has its name
 abbrev pub MayFollow : List (ℕ × List ℕ) → List (Named HeartFile) → List File → Type 0
 MayFollow found front [] = Unit {0}
 MayFollow found front (file ∷ files) = AreBelow file.id front × (id_called file.name front ≡ None) × MayFollow found (front ++ read_named found file ∷ []) files

@@ -7,7 +7,7 @@ use Rattle.zc_plain.specs.declared.plain_pool.PlainBlock.TheVariants.{Hole, Made
 use Rattle.zc_plain.specs.PlainPool.{is_made as is_held}
 use Rattle.zc_plain.specs.PlainPool.{blocks_of_size, bytes_of_block}
 use Rattle.zc_plain.specs.Written.{start_in, part_in}
-use Rattle.zc_plain.specs.Truncated.{is_cut, kept_in, truncated_block}
+use Rattle.zc_plain.specs.Truncated.{is_trimmed, kept_in, truncated_block}
 use Rattle.zc_heart.specs.declared.file.Mark.{Mark}
 use Rattle.zc_heart.specs.declared.file.Mark.TheVariants as mark
 use Rattle.zc_heart.specs.declared.file.HeartFile.{HeartFile}
@@ -53,8 +53,8 @@ abbrev pub is_within : (from end index : ℕ) → Bool
 is_within from end index = nat_le from index && nat_lt index end
 
 -- no file has a block of this command with a number below this one
-abbrev pub IsFresh : (number upto : ℕ) → Stamps → Type 0
-IsFresh number upto stamps = (k : ℕ) → k < upto → files_at stamps (number, k) ≡ 0
+abbrev pub AreUnused : (number upto : ℕ) → Stamps → Type 0
+AreUnused number upto stamps = (k : ℕ) → k < upto → files_at stamps (number, k) ≡ 0
 
 -- there is room for the command's blocks with these numbers
 abbrev pub HasStampRoom : (number from upto : ℕ) → Stamps → Type 0
@@ -65,10 +65,10 @@ unfoldable pub written_bytes : (offset : ℕ) → List ℕ → HeartFile → (in
 written_bytes offset bytes file index = edited (bytes_of_block (held_at index file)) (start_in index offset) (part_in index offset bytes)
 
 -- the bytes of the block with the number, with bytes 0 from the size on
-unfoldable pub cut_bytes : (size : ℕ) → HeartFile → (index : ℕ) → List ℕ
-cut_bytes size file index = edited (bytes_of_block (held_at index file)) (kept_in index size) (replicate (4096 - kept_in index size) 0)
+unfoldable pub trimmed_bytes : (size : ℕ) → HeartFile → (index : ℕ) → List ℕ
+trimmed_bytes size file index = edited (bytes_of_block (held_at index file)) (kept_in index size) (replicate (4096 - kept_in index size) 0)
 
--- Those of the command's blocks that stand at `from` and behind it were put, of all that begin at `first`; every other block stays.
+-- Those of the command's blocks that stand at `from` and after it were put, of all that begin at `first`; every other block stays.
 pub record PutsAll (number first : ℕ) (made : List (List ℕ)) (from : ℕ) (old new : HeartFile) (s t : Stamps) : Type 0 where
   pub heart : IsHeartFile new
   pub size : new.size ≡ old.size
@@ -89,21 +89,21 @@ hole_mark (Some mark.Made) = mark.Made
 abbrev pub with_size : ℕ → HeartFile → HeartFile
 with_size size file = record file { size = size; sized = file.sized || not (size == file.size) }
 
--- The block in which the file is cut with this size, where there is one, and the room for it: the bytes are of the file before, and
--- the room is in the one behind.
-pub record IsCut (number size : ℕ) (cut : Option (List ℕ)) (old new : HeartFile) (stamps : Stamps) : Type 0 where
-  pub bytes : cut ≡ (if is_cut old.size size (plain_blocks old) (size / 4096) then Some (cut_bytes size old (size / 4096)) else None)
-  pub room : IsSome cut → HasRoom (size / 4096) new
-  pub stamp_room : IsSome cut → IsTrue (has_room stamps (number, size / 4096))
+-- The block in which the file is trimmed with this size, where there is one, and the room for it: the bytes are of the file before, and
+-- the room is in the one after.
+pub record IsCut (number size : ℕ) (trimmed : Option (List ℕ)) (old new : HeartFile) (stamps : Stamps) : Type 0 where
+  pub bytes : trimmed ≡ (if is_trimmed old.size size (plain_blocks old) (size / 4096) then Some (trimmed_bytes size old (size / 4096)) else None)
+  pub room : IsSome trimmed → HasRoom (size / 4096) new
+  pub stamp_room : IsSome trimmed → IsTrue (has_room stamps (number, size / 4096))
 
--- The block in which the file is cut with this size stands there, where there is one, and every other stays; so does each entry for
--- the mark of a block behind the size.
+-- The block in which the file is trimmed with this size stands there, where there is one, and every other stays; so does each entry for
+-- the mark of a block after the size.
 pub record PutsCut (number size : ℕ) (old new : HeartFile) (s t : Stamps) : Type 0 where
   pub heart : IsHeartFile new
   pub size_is : new.size ≡ old.size
   pub sized : new.sized ≡ old.sized
   pub blocks : (k : ℕ) → held_at k new ≡ truncated_block number old.size size (plain_blocks old) k
-  pub marks : Marks (is_cut old.size size (plain_blocks old)) old new
+  pub marks : Marks (is_trimmed old.size size (plain_blocks old)) old new
   pub counts : CountsChange s t old new
   pub room : (k : ℕ) → blocks_of_size size ≤ k → HasMarkRoom k old → HasMarkRoom k new
 

@@ -10,7 +10,7 @@ use crate::changes::GroupDone;
 use crate::pool_core::{Core, WaitingGroup};
 use crate::stamps::{Stamp, Stamps};
 use zc_blkptr::Ptr;
-use zc_num::Listed;
+use zc_num::{Listed, Queue};
 
 /// Takes in where the blocks of a finished group are. Takes no memory, and no file changes.
 pub fn absorb(core: &mut Core, done: &GroupDone)
@@ -39,7 +39,7 @@ fn take_in(core: &mut Core, done: &GroupDone)
 }
 
 // The stamps of the first group that waits, which is taken off.
-fn take_first(waiting: &mut Listed<WaitingGroup>) -> Listed<Stamp>
+fn take_first(waiting: &mut Queue<WaitingGroup>) -> Listed<Stamp>
     requires { 0 < length waiting.old }
     ensures first { result ≡ first_stamps waiting.old }
     ensures rest { waiting.new ≡ drop 1 waiting.old }

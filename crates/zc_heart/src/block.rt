@@ -55,7 +55,7 @@ impl Block {
     }
 }
 
-// The length of an array is known of a parameter, and of nothing behind a field.
+// The length of an array is known of a parameter, and of nothing after a field.
 fn whole(block: &[u8; BLOCK]) -> &[u8; BLOCK]
     ensures bytes { result.now ≡ block.now }
     ensures whole { length block.now ≡ 4096 }

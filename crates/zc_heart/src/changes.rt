@@ -16,7 +16,7 @@ pub enum Now {
 /// One change of a tree. Changes are made in their order.
 #[derive(Drop)]
 pub enum Change {
-    /// A dataset without files, behind the others. The next one has a number above its own.
+    /// A dataset without files, after the others. The next one has a number above its own.
     MakeDataset {
         id: u64,
         slot: u32,
@@ -26,7 +26,7 @@ pub enum Change {
     DropDataset {
         id: u64,
     },
-    /// A file without bytes, behind the others of the dataset. The next one has a number above its own.
+    /// A file without bytes, after the others of the dataset. The next one has a number above its own.
     MakeFile {
         dataset: u64,
         file: u64,

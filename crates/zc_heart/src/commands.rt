@@ -11,11 +11,11 @@ ghost use Rattle.zc_command.specs.declared.reply.Reply.TheVariants as reply;
 ghost use Rattle.zc_heart.specs.Input.{input_bytes};
 ghost use Rattle.zc_heart.specs.Meaning.{Replies, Commands, is_data};
 
-use crate::dataset::{Spot, dataset_at, dataset_of, file_on, place_of, refuse_long, spot_of};
+use crate::dataset::{Spot, dataset_at, dataset_index, dataset_of, file_on, refuse_long, spot_of};
 use crate::making::{add_dataset, add_file, drop_dataset, drop_file, put_bytes, set_size};
 use crate::pool_core::Core;
 use crate::reading::bytes_from;
-use crate::room::{refuse_charge, refuse_end, room_in_file, unmade_cut, unmade_touched};
+use crate::room::{refuse_charge, refuse_end, room_in_file, unmade_touched, unmade_trimmed};
 use crate::writing::Input;
 use std::alloc::Global;
 use zc_command::{Bad, Command, Refusal, Reply, What, Why};
@@ -144,7 +144,7 @@ fn mkds(alloc: Global, core: &mut Core, dataset: &Name) -> Result<Reply, NoMemor
     ensures err { OnErr result (IsLeft core.old core.new) }
     ensures last { core.new.last ≡ core.old.last }
 {
-    if place_of(core, dataset).is_some() {
+    if dataset_index(core, dataset).is_some() {
         return Ok(refused(Refusal::Eexist));
     }
     let need = core.datasets.len() as u64 + 1;
@@ -313,7 +313,7 @@ fn truncate(
     if let Err(refusal) = refuse_end(core, size) {
         return Ok(refused(refusal));
     }
-    let more = unmade_cut(core, spot, size);
+    let more = unmade_trimmed(core, spot, size);
     if let Err(refusal) = refuse_charge(core, more) {
         return Ok(refused(refusal));
     }

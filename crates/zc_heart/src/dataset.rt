@@ -1,7 +1,7 @@
 // Where the datasets and files of a name stand in a heart, and the refusals where none does.
 ghost use Rattle.std.specs.Prelude.{◌≡◌, ◌<◌, IfOk, IfSome, IsSome, Some, length, slice_get};
 ghost use Rattle.zc_plain.specs.Answer.{refuse_if, refuse_long};
-ghost use Rattle.zc_heart.specs.Deeds.{place_of, dataset_of, files_in, spot_of, file_on};
+ghost use Rattle.zc_heart.specs.Deeds.{dataset_index, dataset_of, files_in, spot_of, file_on};
 
 use crate::directory::Named;
 use crate::file::HeartFile;
@@ -34,9 +34,9 @@ pub fn refuse_long(command: &Command) -> Result<(), Refusal>
 }
 
 /// The place of the dataset of the name.
-#[tactic(auto, unfolding(crate::specs::Deeds::place_of))]
-pub fn place_of(core: &Core, name: &Name) -> Option<usize>
-    ensures value { result ≡ place_of name.now core.now }
+#[tactic(auto, unfolding(crate::specs::Deeds::dataset_index))]
+pub fn dataset_index(core: &Core, name: &Name) -> Option<usize>
+    ensures value { result ≡ dataset_index name.now core.now }
     ensures within { IfSome result (λ place. place < length core.now.datasets) }
 {
     let datasets = core.datasets.as_slice();
@@ -49,7 +49,7 @@ pub fn dataset_of(core: &Core, dataset: &Name) -> Result<usize, Refusal>
     ensures value { result ≡ dataset_of dataset.now core.now }
     ensures within { IfOk result (λ place. place < length core.now.datasets) }
 {
-    match place_of(core, dataset) {
+    match dataset_index(core, dataset) {
         None => Err(Refusal::Enoent {
             part: Part::Dataset,
         }),

@@ -88,7 +88,7 @@ impl<V> Directory<V> {
 impl<V: Drop> Directory<V> {
     ghost use Rattle.zc_heart.specs.Directory.{AreBelow, id_called, id_of, is_numbered};
 
-    /// Puts a value behind the others. Its number is above theirs, and none has its name.
+    /// Puts a value after the others. Its number is above theirs, and none has its name.
     ///
     /// # Errors
     /// Want of memory; nothing has changed.

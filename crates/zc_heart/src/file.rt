@@ -6,7 +6,7 @@ ghost use Rattle.zc_plain.specs.PlainPool.{is_made as is_held, blocks_of_size, z
 ghost use Rattle.zc_heart.specs.Core.{plain_block, is_made, IsHeartFile};
 ghost use Rattle.zc_heart.specs.File.{Marks, CountsChange, Counts};
 ghost use Rattle.zc_heart.specs.Stamps.{files_at, has_room};
-ghost use Rattle.zc_heart.specs.Steps.{held_at, HasRoom, HasMarkRoom, KeepsAll, Sets, IsFresh, with_size, hole_mark};
+ghost use Rattle.zc_heart.specs.Steps.{held_at, HasRoom, HasMarkRoom, KeepsAll, Sets, AreUnused, with_size, hole_mark};
 
 use crate::block::Block;
 use crate::stamps::{Stamp, Stamps};
@@ -140,12 +140,12 @@ impl HeartFile {
         requires room { HasRoom index self.old }
         requires stamp { IsTrue (has_room stamps.old (number, index)) }
         requires counted { Counts stamps.old self.old }
-        requires fresh { IsFresh number (index + 1) stamps.old }
+        requires fresh { AreUnused number (index + 1) stamps.old }
         ensures heart { IsHeartFile self.new }
         ensures block { Sets index (MadeBlock number index bytes) self.old self.new }
         ensures marks { Marks (λ k. k == index) self.old self.new }
         ensures counts { CountsChange stamps.old stamps.new self.old self.new }
-        ensures fresh { IsFresh number index stamps.new }
+        ensures fresh { AreUnused number index stamps.new }
         ensures rooms { (k : ℕ) → k < index → IsTrue (has_room stamps.old (number, k)) → IsTrue (has_room stamps.new (number, k)) }
     {
         let at = u64::from(index);
@@ -235,7 +235,7 @@ impl HeartFile {
         }
     }
 
-    /// Gives the file the size, where no block stands behind it. Takes no memory.
+    /// Gives the file the size, where no block stands after it. Takes no memory.
     pub fn set_size(&mut self, size: u64)
         ensures { self.new ≡ with_size size self.old }
     {

@@ -151,7 +151,7 @@ fn has_next_files(datasets: &[HeartDataset]) -> bool
 fn is_first(core: &Core, done: &GroupDone) -> bool
     ensures { IsTrue result → MayAbsorb done.now core.now }
 {
-    match core.waiting.get(0) {
+    match core.waiting.first() {
         None => false,
         Some(waits) => {
             done.group == waits.group

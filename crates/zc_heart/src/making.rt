@@ -4,7 +4,7 @@ ghost use Rattle.zc_plain.specs.Answer.{most_bytes, most_charge, most_datasets, 
 ghost use Rattle.zc_plain.specs.IsPlain.{AreNextUpTo};
 ghost use Rattle.zc_plain.specs.Putting.{first_touched, touched_count};
 ghost use Rattle.zc_heart.specs.Core.{plain_block, pool_of, charge, areas_of, IsCore, IsHeartFile, IsDatasetOfCore};
-ghost use Rattle.zc_heart.specs.Deeds.{files_in, file_on, place_of, unmade_on, cut_on, with_dataset, with_file, IsFreshIn, IsChangeable, stamps_in_files, CountsAll, TakesFile, ChangesFile, ChangesFileAt, IsNoted, Puts, Cuts, Keeps, Becomes, IsLeft};
+ghost use Rattle.zc_heart.specs.Deeds.{files_in, file_on, dataset_index, unmade_on, trimmed_on, with_dataset, with_file, IsFreshIn, IsChangeable, stamps_in_files, CountsAll, TakesFile, ChangesFile, ChangesFileAt, IsNoted, Puts, Cuts, Keeps, Becomes, IsLeft};
 ghost use Rattle.zc_heart.specs.Deeds as deeds;
 ghost use Rattle.zc_heart.specs.Directory.{id_called, is_numbered};
 ghost use Rattle.zc_heart.specs.File.{stamps_in, Counts, IsNew};
@@ -19,7 +19,7 @@ use crate::dataset::{Spot, dataset_at};
 use crate::directory::Directory;
 use crate::file::{HeartFile, HeldBlock};
 use crate::pool_core::{Core, HeartDataset};
-use crate::room::{unmade_cut, unmade_touched};
+use crate::room::{unmade_touched, unmade_trimmed};
 use crate::stamps::{Numbers, Stamp, Stamps};
 use crate::truncating::truncate_into;
 use crate::writing::{Input, write_into};
@@ -34,7 +34,7 @@ use zc_num::{Listed, Name, NoMemory, Ordered};
 /// Want of memory; nothing has changed.
 pub fn add_dataset(alloc: Global, core: &mut Core, name: &Name) -> Result<(), NoMemory>
     requires core { IsCore core.old }
-    requires missing { is_some (place_of name.now core.old) ≡ false }
+    requires missing { is_some (dataset_index name.now core.old) ≡ false }
     requires few { length core.old.datasets + 1 ≤ most_datasets }
     requires number { core.old.next_dataset < 2 ^ 64 - 1 }
     ensures ok { OnOk result (Becomes (deeds.AddDataset name.now) core.old core.new) }
@@ -356,12 +356,12 @@ pub fn set_size(
     requires within { spot.place < length core.old.datasets }
     requires there { IsSome (file_on spot core.old) }
     requires ends { size ≤ most_bytes (pool_of core.old) }
-    requires charge { charge core.old + unmade_on (size / 4096) (cut_on size spot core.old) spot core.old ≤ most_charge (pool_of core.old) }
+    requires charge { charge core.old + unmade_on (size / 4096) (trimmed_on size spot core.old) spot core.old ≤ most_charge (pool_of core.old) }
     ensures ok { OnOk result (Becomes (deeds.SetSize number spot size) core.old core.new) }
     ensures err { OnErr result (IsLeft core.old core.new) }
     ensures last { core.new.last ≤ number }
 {
-    let made = unmade_cut(core, spot, size);
+    let made = unmade_trimmed(core, spot, size);
     truncate_in(
         alloc,
         &mut core.datasets,

@@ -20,7 +20,7 @@ use crate::stamps::{Numbers, Stamp, Stamps};
 use std::alloc::Global;
 use std::collections::BTreeMap;
 use zc_blkptr::Ptr;
-use zc_num::{BLOCK, Boxed, Limits, Listed, NoMemory, Ordered};
+use zc_num::{BLOCK, Boxed, Limits, Listed, NoMemory, Ordered, Queue};
 use zc_tree::{Dataset, File, Tree};
 
 /// A block that was read.
@@ -118,7 +118,7 @@ fn hold(
         log: Listed::new(alloc),
         made: 0,
         held,
-        waiting: Listed::new(alloc),
+        waiting: Queue::new(alloc),
         last: 0,
     })
 }

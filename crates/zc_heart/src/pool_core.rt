@@ -4,11 +4,11 @@ ghost use Rattle.zc_heart.specs.Core.{pool_of};
 ghost use Rattle.zc_heart.specs.Meaning.{dataset_number};
 
 use crate::changes::Change;
-use crate::dataset::{dataset_at, place_of};
+use crate::dataset::{dataset_at, dataset_index};
 use crate::directory::Directory;
 use crate::file::HeartFile;
 use crate::stamps::{Numbers, Stamp, Stamps};
-use zc_num::{Limits, Listed, Name};
+use zc_num::{Limits, Listed, Name, Queue};
 
 /// Files under a name.
 #[derive(Drop)]
@@ -58,7 +58,7 @@ pub struct Core {
     /// How many blocks the last finished group holds.
     pub held: u64,
     /// The sealed groups that aren't taken in yet, in order.
-    pub waiting: Listed<WaitingGroup>,
+    pub waiting: Queue<WaitingGroup>,
     /// The number of the last command that made a block.
     pub last: u64,
 }
@@ -68,7 +68,7 @@ impl Core {
     pub fn dataset(&self, name: &Name) -> Option<(u64, bool)>
         ensures { result ≡ dataset_number name.now (pool_of self.now) }
     {
-        match place_of(self, name) {
+        match dataset_index(self, name) {
             None => None,
             Some(place) => Some((dataset_at(self, place).id, true)),
         }

@@ -2,7 +2,7 @@
 ghost use Rattle.std.specs.Prelude.{◌≡◌, ◌+◌, ◌-◌, ◌*◌, ◌/◌, ◌^◌, ◌<◌, ◌≤◌, ◌++◌, min, length, take, drop, IfOk, OnOk};
 ghost use Rattle.zc_plain.specs.PlainPool.{bytes_of_block, bytes_from};
 ghost use Rattle.zc_plain.specs.Answer.{holes_touched};
-ghost use Rattle.zc_plain.specs.Truncated.{is_cut};
+ghost use Rattle.zc_plain.specs.Truncated.{is_trimmed};
 ghost use Rattle.zc_heart.specs.Core.{plain_blocks, IsHeartFile};
 ghost use Rattle.zc_heart.specs.File.{bare, unmade_in};
 ghost use Rattle.zc_heart.specs.Steps.{held_at};
@@ -102,12 +102,12 @@ pub fn unmade(file: &HeartFile, first: u32, count: u32) -> u64
     unmade
 }
 
-/// Whether the file is cut inside a block that is no hole, once it has the size.
-#[tactic(auto, using(crate::proofs::ReadLaws::uncut_past, crate::proofs::ReadLaws::uncut_between, crate::proofs::ReadLaws::cut_where_held, crate::proofs::HeldLaws::block_of_heart))]
-pub fn is_cut(file: &HeartFile, size: u64) -> bool
+/// Whether the file is trimmed inside a block that is no hole, once it has the size.
+#[tactic(auto, using(crate::proofs::ReadLaws::uncut_past, crate::proofs::ReadLaws::uncut_between, crate::proofs::ReadLaws::trimmed_where_held, crate::proofs::HeldLaws::block_of_heart))]
+pub fn is_trimmed(file: &HeartFile, size: u64) -> bool
     requires heart { IsHeartFile file.now }
     requires fits { file.now.size ≤ 2 ^ 28 }
-    ensures { result ≡ is_cut file.now.size size (plain_blocks file.now) (size / 4096) }
+    ensures { result ≡ is_trimmed file.now.size size (plain_blocks file.now) (size / 4096) }
 {
     if file.size <= size {
         return false;

@@ -3,12 +3,12 @@ ghost use Rattle.std.specs.Prelude.{◌≡◌, ◌+◌, ◌/◌, ◌^◌, ◌<�
 ghost use Rattle.zc_plain.specs.Putting.{first_touched, touched_count};
 ghost use Rattle.zc_plain.specs.Answer.{holes_touched, refuse_end, refuse_pointers};
 ghost use Rattle.zc_heart.specs.Core.{pool_of, made_waiting, IsHeartFile, IsCore};
-ghost use Rattle.zc_heart.specs.Deeds.{pointers_at, blocks_on, file_on, unmade_on, cut_count, cut_on, room_in_file, refuse_charge};
+ghost use Rattle.zc_heart.specs.Deeds.{pointers_at, blocks_on, file_on, unmade_on, trimmed_count, trimmed_on, room_in_file, refuse_charge};
 
 use crate::dataset::{Spot, dataset_at, file_on, refuse_if};
 use crate::file::HeartFile;
 use crate::pool_core::Core;
-use crate::reading::{holes_touched, is_cut, unmade};
+use crate::reading::{holes_touched, is_trimmed, unmade};
 use zc_command::{Refusal, What};
 
 /// Refused where the file would end past its limit.
@@ -46,12 +46,12 @@ pub fn room_in_file(core: &Core, spot: Spot, offset: u64, len: u64) -> Result<()
     ensures { result ≡ room_in_file offset len spot core.now }
 {
     refuse_end(core, offset + len)?;
-    refuse_pointers(core, pointers_behind(core, spot, offset, len))
+    refuse_pointers(core, pointers_after(core, spot, offset, len))
 }
 
 // The pointers of the dataset once a block stands wherever the bytes touch one.
 #[tactic(auto, using(crate::proofs::Ready::few_pointers_there, zc_plain::proofs::FewBlocks::few_holes))]
-fn pointers_behind(core: &Core, spot: Spot, offset: u64, len: u64) -> u64
+fn pointers_after(core: &Core, spot: Spot, offset: u64, len: u64) -> u64
     requires core { IsCore core.now }
     requires within { spot.place < length core.now.datasets }
     requires there { IsSome (file_on spot core.now) }
@@ -111,26 +111,26 @@ pub fn unmade_touched(core: &Core, spot: Spot, offset: u64, len: u64) -> u64
     unmade(&file_on(core, spot).value, first, count)
 }
 
-/// How many blocks are made where the file gets the size and the open group didn't make them: the one that is cut, at most.
+/// How many blocks are made where the file gets the size and the open group didn't make them: the one that is trimmed, at most.
 #[tactic(auto, using(crate::proofs::Ready::spot_short, crate::proofs::Ready::unmade_few))]
-pub fn unmade_cut(core: &Core, spot: Spot, size: u64) -> u64
+pub fn unmade_trimmed(core: &Core, spot: Spot, size: u64) -> u64
     requires core { IsCore core.now }
     requires within { spot.place < length core.now.datasets }
     requires there { IsSome (file_on spot core.now) }
     requires fits { size ≤ 2 ^ 28 }
-    ensures value { result ≡ unmade_on (size / 4096) (cut_on size spot core.now) spot core.now }
+    ensures value { result ≡ unmade_on (size / 4096) (trimmed_on size spot core.now) spot core.now }
     ensures few { result ≤ 1 }
 {
     let file = &file_on(core, spot).value;
-    unmade(file, (size / 4096) as u32, cut_count(file, size))
+    unmade(file, (size / 4096) as u32, trimmed_count(file, size))
 }
 
-// How many of its blocks are cut where the file gets the size.
-fn cut_count(file: &HeartFile, size: u64) -> u32
+// How many of its blocks are trimmed where the file gets the size.
+fn trimmed_count(file: &HeartFile, size: u64) -> u32
     requires heart { IsHeartFile file.now }
     requires fits { file.now.size ≤ 2 ^ 28 }
-    ensures value { result ≡ cut_count size file.now }
+    ensures value { result ≡ trimmed_count size file.now }
     ensures few { result ≤ 1 }
 {
-    if is_cut(file, size) { 1 } else { 0 }
+    if is_trimmed(file, size) { 1 } else { 0 }
 }

@@ -49,6 +49,7 @@ fn hand_out(alloc: Global, core: &mut Core) -> Result<Sealed, NoMemory>
     let mut stamps = Listed::new(alloc);
     note_datasets(core.datasets.as_slice(), &mut changes, &mut stamps)?;
     let held = core.stamps.distinct();
+    let waiting = core.waiting.len();
     wait_for(core, held, stamps)?;
     match take_log(alloc, &mut core.log, changes) {
         Ok(changes) => {
@@ -63,7 +64,7 @@ fn hand_out(alloc: Global, core: &mut Core) -> Result<Sealed, NoMemory>
             })
         }
         Err(fault) => {
-            core.waiting.pop();
+            core.waiting.truncate(waiting);
             Err(fault)
         }
     }
@@ -83,7 +84,7 @@ fn wait_for(core: &mut Core, held: u64, stamps: Listed<Stamp>) -> Result<(), NoM
     core.waiting.push(waits)
 }
 
-// The log with more changes behind it, and none in its place.
+// The log with more changes after it, and none in its place.
 fn take_log(
     alloc: Global,
     log: &mut Listed<Change>,

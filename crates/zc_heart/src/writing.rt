@@ -170,7 +170,7 @@ fn make_rooms(
     Ok(())
 }
 
-// Puts the blocks at `first` and behind it, the last one first.
+// Puts the blocks at `first` and after it, the last one first.
 fn put_blocks(file: &mut HeartFile, stamps: &mut Stamps, number: u64, first: u32, made: Vec<Block>)
     requires heart { IsHeartFile file.old }
     requires short { file.old.size < 2 ^ 64 }

@@ -24,7 +24,7 @@ use Rattle.zc_plain.specs.IsPlain.{IsPlain}
 use Rattle.zc_apply.specs.Alike.{Holds}
 use Rattle.zc_apply.specs.Found.{bare_block, bare_file, bare_dataset, bare_pool, block_found, file_found, dataset_found, bare_found}
 use Rattle.zc_apply.proofs.FoundLaws.{pool_of_held}
-use Rattle.zc_lane.specs.Held.{plain_block, plain_file, plain_dataset, found_in, Contents, contents_of, files_under, HoldSame}
+use Rattle.zc_lane.specs.Found.{plain_block, plain_file, plain_dataset, found_in, Contents, contents_of, files_under, HoldSame}
 
 -- ---- what no stamp changes
 

@@ -16,10 +16,10 @@ use Rattle.zc_blkptr.specs.declared.ptr.Ptr.{Ptr}
 use Rattle.zc_tape.specs.Tape.{Shape}
 use Rattle.zc_tree.specs.Reach.{pointers_of_tree}
 use Rattle.zc_damage.specs.declared.block.FoundBlock.{FoundBlock}
-use Rattle.zc_damage.specs.Places.{number_of, is_reached, has_place, is_owned, bytes_in}
+use Rattle.zc_damage.specs.Places.{number_of, is_reached, chain_has, is_owned, bytes_in}
 use Rattle.zc_damage.proofs.EarlyLaws.{each_weaker, image_each}
 use Rattle.zc_layout.specs.Layout.{owns}
-use Rattle.zc_state.specs.State.{State, IsFree, AreChainPlaces, place_of, put_of}
+use Rattle.zc_state.specs.State.{State, IsFree, AreChainPlaces, place_of_block, put_of}
 use Rattle.zc_state.proofs.BlockLaws.{all_of_two, each_reached, number_low}
 use Rattle.zc_next.specs.Next.{IsUnowned, IsWritten, AreNewBlocks}
 use Rattle.zc_next.proofs.BlockLists.{holds_there, each_there, each_has_its_bytes, bytes_in_front, bytes_in_back}
@@ -49,18 +49,18 @@ none_first x xs same = absurd cc
 -- ---- places
 
 -- blocks at places that a chain may have and that the state doesn't own are new ones
-pub new_blocks_are : (shape : Shape) (s : State) (new : List FoundBlock) → AreChainPlaces shape.devices shape.places (map place_of new) → AllByRecursion (IsUnowned shape s) (map place_of new) → AreNewBlocks shape s [] new
+pub new_blocks_are : (shape : Shape) (s : State) (new : List FoundBlock) → AreChainPlaces shape.devices shape.places (map place_of_block new) → AllByRecursion (IsUnowned shape s) (map place_of_block new) → AreNewBlocks shape s [] new
 new_blocks_are shape s [] are unowned = tt
 new_blocks_are shape s (block ∷ new) are unowned = (are.0, unowned.0, refl, are.1, new_blocks_are shape s new are.2 unowned.1)
 
 -- and the places of new blocks are such places
-pub new_places_are : (shape : Shape) (s : State) (new : List FoundBlock) → AreNewBlocks shape s [] new → AreChainPlaces shape.devices shape.places (map place_of new)
+pub new_places_are : (shape : Shape) (s : State) (new : List FoundBlock) → AreNewBlocks shape s [] new → AreChainPlaces shape.devices shape.places (map place_of_block new)
 new_places_are shape s [] fresh = tt
 new_places_are shape s (block ∷ new) fresh = (fresh.0, fresh.3, new_places_are shape s new fresh.4)
 
 -- blocks at the first places that the state leaves free are new ones
 pub chosen_are_new : (shape : Shape) (s : State) (count : ℕ) (new : List FoundBlock) → AreLimits shape.devices shape.places
-    → map place_of new ≡ free_places shape.devices shape.places s.chain (pointers_of_tree s.parts.tree) count → AreNewBlocks shape s [] new
+    → map place_of_block new ≡ free_places shape.devices shape.places s.chain (pointers_of_tree s.parts.tree) count → AreNewBlocks shape s [] new
 chosen_are_new shape s count new limits chosen =
     let reach : List Ptr = pointers_of_tree s.parts.tree in
     new_blocks_are shape s new
@@ -70,7 +70,7 @@ chosen_are_new shape s count new limits chosen =
 -- a reached place is owned
 reached_is_owned : (devices places : ℕ) (chain : List PlaceAt) (reach : List Ptr) (number : ℕ) → is_reached places reach number ≡ true → is_owned devices places chain reach number ≡ true
 reached_is_owned devices places chain reach number there =
-    or_left (is_reached places reach number) (has_place places chain number || is_fixed devices places (number / places) (number % places)) there
+    or_left (is_reached places reach number) (chain_has places chain number || is_fixed devices places (number / places) (number % places)) there
 
 -- ---- bytes
 
@@ -160,7 +160,7 @@ place_low devices places device place limits on within =
     omega (arith, low, most, parts, total)
 
 -- a pool may have the pointer to a new block
-ptr_fits : (devices places group : ℕ) (block : FoundBlock) → AreLimits devices places → 1 ≤ group → group < 2 ^ 64 → IsFree devices places (place_of block) → IsPtr devices places (ptr_to group block)
+ptr_fits : (devices places group : ℕ) (block : FoundBlock) → AreLimits devices places → 1 ≤ group → group < 2 ^ 64 → IsFree devices places (place_of_block block) → IsPtr devices places (ptr_to group block)
 ptr_fits devices places group block limits some width free =
     let on_device : block.device < devices = free.device in
     let low : block.device < 2 ^ 32 = omega (arith, on_device, limits.few_devices) in
@@ -181,7 +181,7 @@ ptr_fits devices places group block limits some width free =
       };
     }
 
-pub pointers_fit : (devices places group : ℕ) (new : List FoundBlock) → AreLimits devices places → 1 ≤ group → group < 2 ^ 64 → AreChainPlaces devices places (map place_of new)
+pub pointers_fit : (devices places group : ℕ) (new : List FoundBlock) → AreLimits devices places → 1 ≤ group → group < 2 ^ 64 → AreChainPlaces devices places (map place_of_block new)
     → AllByRecursion (IsPtr devices places) (map (ptr_to group) new)
 pointers_fit devices places group [] limits some width are = tt
 pointers_fit devices places group (block ∷ new) limits some width are = (ptr_fits devices places group block limits some width are.0, pointers_fit devices places group new limits some width are.2)

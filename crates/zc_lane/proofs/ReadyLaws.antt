@@ -14,7 +14,7 @@ use Rattle.zc_layout.proofs.GroupCrash.{each_crash_as_read}
 use Rattle.zc_layout.proofs.StandingLaws.{stands_where_same}
 use Rattle.zc_damage.specs.declared.block.FoundBlock.{FoundBlock}
 use Rattle.zc_damage.specs.Places.{ChainPlaces}
-use Rattle.zc_state.specs.State.{State, StandsFor, AreChainPlaces, place_of, standing_of}
+use Rattle.zc_state.specs.State.{State, StandsFor, AreChainPlaces, place_of_block, standing_of}
 use Rattle.zc_next.specs.Next.{AreNewBlocks}
 use Rattle.zc_heart.specs.declared.changes.Sealed.{Sealed}
 use Rattle.zc_heart.specs.Changes.{is_made}
@@ -26,7 +26,7 @@ use Rattle.zc_group.specs.declared.root.Root.{Root}
 use Rattle.zc_group.proofs.ChosenLaws.{chosen_places, chain_there}
 use Rattle.zc_apply.specs.Jobs.{IsJob, IsBase}
 use Rattle.zc_lane.specs.Jobs.{HasTreeOf, MayWrite, IsRooted, IsNextWith, LeavesJob, IsJobDone}
-use Rattle.zc_lane.specs.Placed.{bytes_made, free_behind, next_tree, IsReady, IsPrepared}
+use Rattle.zc_lane.specs.Placed.{bytes_made, free_after, next_tree, IsReady, IsPrepared}
 use Rattle.zc_lane.proofs.PlacedLaws.{chosen_are_new, made_counted, pointers_long, pointers_fit}
 use Rattle.zc_lane.proofs.TreeLaws.{next_datasets, tree_of_job}
 use Rattle.zc_lane.proofs.NextLaws.{may_commit, job_leaves, job_done}
@@ -41,14 +41,14 @@ module _ (root : Root) (job : Sealed) (tree : Tree) (new : List FoundBlock) (pla
   abbrev count : ℕ
   count = length (bytes_made job.changes)
 
-  are_chain_places : AreChainPlaces root.limits.devices root.limits.places (map place_of new)
+  are_chain_places : AreChainPlaces root.limits.devices root.limits.places (map place_of_block new)
   are_chain_places =
       subst (AreChainPlaces root.limits.devices root.limits.places) (sym is.places)
       (chosen_places root.limits.devices root.limits.places root.chain (pointers_of_tree root.tree) root.limits.are_limits count)
 
   -- the pool has the places of the new blocks
-  pub places_there : ChainPlaces root.limits.devices root.limits.places (map place_of new)
-  places_there = chain_there root.limits.devices root.limits.places (map place_of new) are_chain_places
+  pub places_there : ChainPlaces root.limits.devices root.limits.places (map place_of_block new)
+  places_there = chain_there root.limits.devices root.limits.places (map place_of_block new) are_chain_places
 
   long : length placed ≡ length (filter is_made job.changes)
   long = ap (λ (ptrs : List Ptr). length ptrs) is.pointers ∙ pointers_long job.group job.changes new is.bytes
@@ -78,7 +78,7 @@ module _ (root : Root) (job : Sealed) (tree : Tree) (new : List FoundBlock) (pla
       -- the new blocks are at places that the state leaves free
       are_new : (s : State) (from : Base) → IsRooted shape t s root from → AreNewBlocks shape s [] new
       are_new s from rooted =
-          let same : free_behind root count ≡ free_places shape.devices shape.places s.chain (pointers_of_tree s.parts.tree) count =
+          let same : free_after root count ≡ free_places shape.devices shape.places s.chain (pointers_of_tree s.parts.tree) count =
           λ i. free_places (rooted.keeps.size.devices i) (rooted.keeps.size.places i) (rooted.keeps.chain_is i) (pointers_of_tree (rooted.keeps.tree_is i)) count in
           chosen_are_new shape s count new rooted.keeps.stands.state.size (is.places ∙ same)
 

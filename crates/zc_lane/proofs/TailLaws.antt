@@ -1,4 +1,4 @@
--- A tree that holds a plain pool has zeros behind the size of each file, and no log that is claimed.
+-- A tree that holds a plain pool has zeros after the size of each file, and no log that is claimed.
 use Rattle.std.proofs.Common.{◌≡◌, ◌∙◌, ℕ, zero, suc, ◌+◌, ◌*◌, ◌-◌, ◌<◌, ◌≤◌, Bool, true, false, cond, eqb, List, [], ◌∷◌, length, map, drop, get_or, Option, Some, None, refl, sym, ap, ap₂, subst, arith}
 use Rattle.std.specs.List.{AllByRecursion}
 use Rattle.std.proofs.lemmas.Bool.{eqb-false}
@@ -36,9 +36,9 @@ byte_in : (plain : PlainFile) (k r : ℕ) → r < 4096 → byte_of plain (k * 40
 unfolding byte_of
 byte_in plain k r low = ap₂ (λ (a b : ℕ). get_or (bytes_of_block (block_at a plain.blocks)) b 0) (div-mul-add k 4096 r low) (mod-mul-add k 4096 r low)
 
--- where the size ends in a block, zeros are behind it there
-zero_behind : (plain : PlainFile) (k count : ℕ) → IsPlainFile plain → plain.size ≤ k * 4096 + count → AllByRecursion (λ (byte : ℕ). byte ≡ 0) (drop count (bytes_of_block (block_at k plain.blocks)))
-zero_behind plain k count is ends =
+-- where the size ends in a block, zeros are after it there
+zero_after : (plain : PlainFile) (k count : ℕ) → IsPlainFile plain → plain.size ≤ k * 4096 + count → AllByRecursion (λ (byte : ℕ). byte ≡ 0) (drop count (bytes_of_block (block_at k plain.blocks)))
+zero_after plain k count is ends =
     let bytes : List ℕ = bytes_of_block (block_at k plain.blocks) in
     let whole : length bytes ≡ 4096 = is.whole k in
     recursion_from_All (λ (byte : ℕ). byte ≡ 0) (drop count bytes)
@@ -88,7 +88,7 @@ file_zero bytes_at plain file is found ptr last =
     let made : Made 0 0 (bytes_at ptr.device ptr.place) ≡ at_last k = ap (block_found bytes_at) (sym there.1) in
     let bytes : bytes_at ptr.device ptr.place ≡ bytes_of_block (block_at k plain.blocks) = ap bytes_of_block (made ∙ block) ∙ bare_bytes (block_at k plain.blocks) in
     let ends : plain.size ≤ k * 4096 + (file.size - 4096 * k) = subst (λ (n : ℕ). n ≤ k * 4096 + (file.size - 4096 * k)) size (last_ends file.size) in
-    subst (λ (bs : List ℕ). AllByRecursion (λ (byte : ℕ). byte ≡ 0) (drop (file.size - 4096 * k) bs)) (sym bytes) (zero_behind plain k (file.size - 4096 * k) is ends)
+    subst (λ (bs : List ℕ). AllByRecursion (λ (byte : ℕ). byte ≡ 0) (drop (file.size - 4096 * k) bs)) (sym bytes) (zero_after plain k (file.size - 4096 * k) is ends)
 
 files_zero : (bytes_at : ℕ → ℕ → List ℕ) (plains : List PlainFile) (files : List File) → ((place : ℕ) (plain : PlainFile) → StandsAt plains place plain → IsPlainFile plain)
     → map (file_found bytes_at) files ≡ map bare_file plains → AllByRecursion (HasZeroTail bytes_at) files

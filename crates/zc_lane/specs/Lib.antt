@@ -1,3 +1,3 @@
-pub mod Held
+pub mod Found
 pub mod Jobs
 pub mod Placed

@@ -7,7 +7,7 @@ use Rattle.zc_tape.specs.Tape.{Shape, Tape}
 use Rattle.zc_tree.specs.Reach.{pointers_of_tree}
 use Rattle.zc_tree.specs.declared.tree.Tree.{Tree}
 use Rattle.zc_damage.specs.declared.block.FoundBlock.{FoundBlock}
-use Rattle.zc_state.specs.State.{State, place_of}
+use Rattle.zc_state.specs.State.{State, place_of_block}
 use Rattle.zc_next.specs.Next.{AreNewBlocks}
 use Rattle.zc_heart.specs.declared.changes.Now.TheVariants as now
 use Rattle.zc_heart.specs.declared.changes.Change.{Change}
@@ -39,8 +39,8 @@ abbrev pub bytes_of : List FoundBlock → List (List ℕ)
 bytes_of blocks = map (λ (block : FoundBlock). block.bytes) blocks
 
 -- the first places of the root's pool, so many, that neither its tree nor its catalogue has
-abbrev pub free_behind : Root → ℕ → List PlaceAt
-free_behind root count = free_places root.limits.devices root.limits.places root.chain (pointers_of_tree root.tree) count
+abbrev pub free_after : Root → ℕ → List PlaceAt
+free_after root count = free_places root.limits.devices root.limits.places root.chain (pointers_of_tree root.tree) count
 
 -- the pointer that the group has to its new block
 abbrev pub ptr_to : (group : ℕ) → FoundBlock → Ptr
@@ -56,10 +56,10 @@ pub record IsPlaced (shape : Shape) (s : State) (job : Sealed) (new : List Found
   pub bytes : bytes_of new ≡ bytes_made job.changes
   pub pointers : placed ≡ map (ptr_to job.group) new
 
--- The job is ready to be written behind the root: the new blocks are those that its changes make, in their order, at the first free
+-- The job is ready to be written after the root: the new blocks are those that its changes make, in their order, at the first free
 -- places, these are the pointers to them, and the tree has these pointers.
 pub record IsReady (root : Root) (job : Sealed) (tree : Tree) (new : List FoundBlock) (placed : List Ptr) : Type 0 where
-  pub places : map place_of new ≡ free_behind root (length (bytes_made job.changes))
+  pub places : map place_of_block new ≡ free_after root (length (bytes_made job.changes))
   pub bytes : bytes_of new ≡ bytes_made job.changes
   pub pointers : placed ≡ map (ptr_to job.group) new
   pub tree_is : tree ≡ next_tree job placed root.tree

@@ -4,8 +4,8 @@ ghost use Rattle.zc_damage.specs.Places.{ReachPlaces, ChainPlaces};
 ghost use Rattle.zc_group.specs.Chosen.{free_places};
 ghost use Rattle.zc_group.specs.Committed.{found_of};
 ghost use Rattle.zc_group.specs.Kept.{HasPlaces};
-ghost use Rattle.zc_state.specs.State.{place_of};
-ghost use Rattle.zc_lane.specs.Placed.{bytes_made_by, bytes_made, bytes_of, free_behind, ptr_to};
+ghost use Rattle.zc_state.specs.State.{place_of_block};
+ghost use Rattle.zc_lane.specs.Placed.{bytes_made_by, bytes_made, bytes_of, free_after, ptr_to};
 
 use std::alloc::Global;
 use zc_blkptr::{Ptr, digest_of};
@@ -15,7 +15,7 @@ use zc_heart::{Block, Change, Now};
 use zc_num::{Boxed, Limits, Listed, NoMemory, PlaceAt};
 use zc_plan::PlacedBlock;
 
-/// The blocks that the changes make, in their order, at the first places that are free behind the root.
+/// The blocks that the changes make, in their order, at the first places that are free after the root.
 ///
 /// # Errors
 /// Want of memory, and where too few places are free.
@@ -25,11 +25,11 @@ pub(crate) fn placed_blocks(
     changes: &[Change],
 ) -> Result<Listed<PlacedBlock>, NoMemory>
     requires { HasPlaces root.now }
-    ensures places { IfOk result (λ new. map place_of (map found_of new) ≡ free_behind root.now (length (bytes_made changes.now))) }
+    ensures places { IfOk result (λ new. map place_of_block (map found_of new) ≡ free_after root.now (length (bytes_made changes.now))) }
     ensures bytes { IfOk result (λ new. bytes_of (map found_of new) ≡ bytes_made changes.now) }
 {
     let blocks = blocks_made(alloc, changes)?;
-    let places = places_behind(alloc, root, blocks.len())?;
+    let places = places_after(alloc, root, blocks.len())?;
     put_at(alloc, places.as_slice(), blocks.as_slice())
 }
 
@@ -66,9 +66,9 @@ fn push_shared(block: &Block, blocks: &mut Listed<Block>) -> Result<(), NoMemory
 }
 
 // The first places, so many, that neither the root's tree nor its catalogue has.
-fn places_behind(alloc: Global, root: &Root, count: usize) -> Result<Listed<PlaceAt>, NoMemory>
+fn places_after(alloc: Global, root: &Root, count: usize) -> Result<Listed<PlaceAt>, NoMemory>
     requires { HasPlaces root.now }
-    ensures first { IfOk result (λ places. places ≡ free_behind root.now count) }
+    ensures first { IfOk result (λ places. places ≡ free_after root.now count) }
     ensures all { IfOk result (λ places. length places ≡ count) }
 {
     let reach = root.tree.walk(alloc)?;
@@ -105,7 +105,7 @@ fn put_at(
     blocks: &[Block],
 ) -> Result<Listed<PlacedBlock>, NoMemory>
     requires { length places.now ≡ length blocks.now }
-    ensures places { IfOk result (λ new. map place_of (map found_of new) ≡ places.now) }
+    ensures places { IfOk result (λ new. map place_of_block (map found_of new) ≡ places.now) }
     ensures bytes { IfOk result (λ new. bytes_of (map found_of new) ≡ blocks.now) }
 {
     let mut new = Listed::new(alloc);

@@ -105,7 +105,7 @@ struct Ready {
     placed: Listed<Ptr>,
 }
 
-// What the job writes behind the root.
+// What the job writes after the root.
 #[tactic(auto, using(crate::proofs::PlacedLaws::made_counted))]
 fn ready_for(alloc: Global, root: &Root, job: &Sealed) -> Result<Ready, NoMemory>
     requires { HasPlaces root.now }

@@ -8,10 +8,10 @@ use Rattle.zc_tape.proofs.Places.{is_at_here, is_at_means}
 use Rattle.zc_damage.specs.declared.block.FoundBlock.{FoundBlock}
 use Rattle.zc_damage.specs.Places.{bytes_in}
 use Rattle.zc_layout.specs.Layout.{owns, AreDistinct}
-use Rattle.zc_layout.proofs.LayoutLaws.{owns_first, owns_behind, owns_other}
-use Rattle.zc_state.specs.State.{place_of, put_of}
+use Rattle.zc_layout.proofs.LayoutLaws.{owns_first, owns_after, owns_other}
+use Rattle.zc_state.specs.State.{place_of_block, put_of}
 use Rattle.zc_state.proofs.BlockLaws.{all_mapped, all_of_two}
-use Rattle.zc_next.specs.Next.{gathered}
+use Rattle.zc_next.specs.Next.{blocks_at}
 
 -- ---- items
 
@@ -36,7 +36,7 @@ each_there [] = tt
 each_there (first ∷ blocks) = (
   owns_first (put_of first) (map put_of blocks),
   all_mapped (λ (block : FoundBlock). owns (map put_of blocks) block.device block.place ≡ true) (λ (block : FoundBlock). owns (map put_of (first ∷ blocks)) block.device block.place ≡ true) blocks
-      (λ block there. owns_behind (put_of first) (map put_of blocks) block.device block.place there) (each_there blocks),
+      (λ block there. owns_after (put_of first) (map put_of blocks) block.device block.place there) (each_there blocks),
 )
 
 -- where no two are at one place, the bytes at the place of each are its own
@@ -60,7 +60,7 @@ bytes_in_front (block ∷ new) old d p there = at (is_at block.device block.plac
   at true there behind = refl
   at false there behind = behind there
 
--- and at one that the front hasn't they are those behind it
+-- and at one that the front hasn't they are those after it
 pub bytes_in_back : (new old : List FoundBlock) (d p : ℕ) → owns (map put_of new) d p ≡ false → bytes_in (new ++ old) d p ≡ bytes_in old d p
 bytes_in_back [] old d p none = refl
 bytes_in_back (block ∷ new) old d p none = at (is_at block.device block.place d p) none (bytes_in_back new old d p) where
@@ -69,19 +69,19 @@ bytes_in_back (block ∷ new) old d p none = at (is_at block.device block.place 
   at true none behind = absurd (true≢false none)
   at false none behind = behind none
 
--- ---- gathered blocks
+-- ---- blocks_at blocks
 
 -- they are at their places
-pub places_of_gathered : (places : List PlaceAt) (blocks : List FoundBlock) → map place_of (gathered places blocks) ≡ places
+pub places_of_gathered : (places : List PlaceAt) (blocks : List FoundBlock) → map place_of_block (blocks_at places blocks) ≡ places
 places_of_gathered [] blocks = refl
 places_of_gathered (at ∷ places) blocks = ap (λ (rest : List PlaceAt). at ∷ rest) (places_of_gathered places blocks)
 
 -- at each of them the bytes are those of the blocks
-pub bytes_of_gathered : (places : List PlaceAt) (blocks : List FoundBlock) (d p : ℕ) → owns (map put_of (gathered places blocks)) d p ≡ true → bytes_in (gathered places blocks) d p ≡ bytes_in blocks d p
+pub bytes_of_gathered : (places : List PlaceAt) (blocks : List FoundBlock) (d p : ℕ) → owns (map put_of (blocks_at places blocks)) d p ≡ true → bytes_in (blocks_at places blocks) d p ≡ bytes_in blocks d p
 bytes_of_gathered [] blocks d p there = absurd (true≢false (sym there))
 bytes_of_gathered (at ∷ places) blocks d p there = here (is_at at.device at.place d p) refl there (bytes_of_gathered places blocks d p) where
-  here : (is : Bool) → is_at at.device at.place d p ≡ is → (is || owns (map put_of (gathered places blocks)) d p) ≡ true
-      → (owns (map put_of (gathered places blocks)) d p ≡ true → bytes_in (gathered places blocks) d p ≡ bytes_in blocks d p)
-      → cond is (bytes_in blocks at.device at.place) (bytes_in (gathered places blocks) d p) ≡ bytes_in blocks d p
+  here : (is : Bool) → is_at at.device at.place d p ≡ is → (is || owns (map put_of (blocks_at places blocks)) d p) ≡ true
+      → (owns (map put_of (blocks_at places blocks)) d p ≡ true → bytes_in (blocks_at places blocks) d p ≡ bytes_in blocks d p)
+      → cond is (bytes_in blocks at.device at.place) (bytes_in (blocks_at places blocks) d p) ≡ bytes_in blocks d p
   here true is there behind = let same = is_at_means at.device at.place d p is in ap₂ (bytes_in blocks) same.0 same.1
   here false is there behind = behind there

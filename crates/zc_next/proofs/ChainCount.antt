@@ -7,7 +7,7 @@ use Rattle.std.proofs.lemmas.Map.Keys.{IsDistinct-cons}
 use Rattle.std.proofs.lemmas.Map.Steps.{length-le_from_distinct_below}
 use Rattle.zc_num.specs.Limits.{total_of}
 use Rattle.zc_num.specs.declared.numbers.PlaceAt.{PlaceAt}
-use Rattle.zc_damage.specs.Places.{number_of, is_at, has_place}
+use Rattle.zc_damage.specs.Places.{number_of, is_at, chain_has}
 use Rattle.zc_damage.proofs.PlaceNumbers.{number_below}
 use Rattle.zc_state.specs.State.{AreChainPlaces}
 
@@ -16,10 +16,10 @@ abbrev chain_numbers : (places : ℕ) → List PlaceAt → List ℕ
 chain_numbers places chain = map (λ (at : PlaceAt). number_of places at.device at.place) chain
 
 -- a number that the chain hasn't is none of its places'
-none_is : (places number : ℕ) (chain : List PlaceAt) → has_place places chain number ≡ false → AllByRecursion (λ (other : ℕ). eqb number other ≡ false) (chain_numbers places chain)
+none_is : (places number : ℕ) (chain : List PlaceAt) → chain_has places chain number ≡ false → AllByRecursion (λ (other : ℕ). eqb number other ≡ false) (chain_numbers places chain)
 none_is places number [] none = tt
 none_is places number (at ∷ chain) none =
-    let both = or_parts (is_at places number at) (has_place places chain number) none in
+    let both = or_parts (is_at places number at) (chain_has places chain number) none in
     let own : ℕ = number_of places at.device at.place in
     (ne_eqb number own (λ same. true≢false (sym (eq-eqb own number (sym same)) ∙ both.0)), none_is places number chain both.1)
 

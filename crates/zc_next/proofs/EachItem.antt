@@ -24,7 +24,7 @@ all_of_each P n f holds =
 pub map_none : {X Y : Type 0} (f : X → Y) (g : ℕ → Y) (xs : List X) → xs ≡ [] → map f xs ≡ each 0 g
 map_none f g xs none = ap (map f) none ∙ sym (each_none g)
 
--- one item more behind those so far
+-- one item more after those so far
 pub map_pushed : {X Y : Type 0} (f : X → Y) (g : ℕ → Y) (xs : List X) (x : X) (n : ℕ) → map f xs ≡ each n g → f x ≡ g n → map f (xs ++ x ∷ []) ≡ each (n + 1) g
 map_pushed f g xs x n so_far is = map-append f xs (x ∷ []) ∙ (λ i. so_far i ++ is i ∷ []) ∙ sym (each_more n g)
 

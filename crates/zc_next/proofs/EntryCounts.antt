@@ -74,7 +74,7 @@ region_of_each places f region within =
     ∙ ap (λ (counts : List ℕ). sum (take 64 counts)) (drop_each (64 * region) left f)
     ∙ ap sum (take_each 64 left (λ k. f (64 * region + k)) (omega arith))
 
--- behind the last place nothing is counted
+-- after the last place nothing is counted
 pub region_past : (counts : List ℕ) (region : ℕ) → length counts ≤ 64 * region → region_at counts region ≡ 0
 unfolding region_at
 region_past counts region past = ap (λ (back : List ℕ). sum (take 64 back)) (drop_all (64 * region) counts past)

@@ -10,10 +10,10 @@ use Rattle.zc_tape.proofs.Places.{not_true, both_false, is_at_means}
 use Rattle.zc_tree.specs.Reach.{pointers_of_tree}
 use Rattle.zc_damage.specs.declared.block.FoundBlock.{FoundBlock}
 use Rattle.zc_damage.specs.Places as damage
-use Rattle.zc_damage.specs.Places.{number_of, has_place, is_owned}
+use Rattle.zc_damage.specs.Places.{number_of, chain_has, is_owned}
 use Rattle.zc_layout.specs.Layout as layout
 use Rattle.zc_layout.specs.Layout.{owns, AreDistinct, AreApart}
-use Rattle.zc_state.specs.State.{State, IsFree, AreChainPlaces, place_of, put_of}
+use Rattle.zc_state.specs.State.{State, IsFree, AreChainPlaces, place_of_block, put_of}
 use Rattle.zc_state.proofs.BlockLaws.{owns_of_places}
 use Rattle.zc_next.specs.Next.{IsUnowned, AreNewBlocks}
 
@@ -27,7 +27,7 @@ same_place places d p e q low other is = (
 )
 
 -- a place whose number the places don't have is none of them
-lacks : (places : ℕ) (chain : List PlaceAt) (d p : ℕ) → has_place places chain (number_of places d p) ≡ false → layout.has_place chain d p ≡ false
+lacks : (places : ℕ) (chain : List PlaceAt) (d p : ℕ) → chain_has places chain (number_of places d p) ≡ false → layout.has_place chain d p ≡ false
 lacks places [] d p none = refl
 lacks places (at ∷ chain) d p none =
     let both = or_parts _ _ none in
@@ -60,7 +60,7 @@ module _ (shape : Shape) (s : State) where
   is_owned_in number = is_owned shape.devices shape.places s.chain (pointers_of_tree s.parts.tree) number
 
   -- none has a number that the state owns
-  pub chain_beside_owned : (chain : List PlaceAt) (number : ℕ) → AllByRecursion (IsUnowned shape s) chain → is_owned_in number ≡ true → has_place shape.places chain number ≡ false
+  pub chain_beside_owned : (chain : List PlaceAt) (number : ℕ) → AllByRecursion (IsUnowned shape s) chain → is_owned_in number ≡ true → chain_has shape.places chain number ≡ false
   chain_beside_owned [] number are owned = refl
   chain_beside_owned (at ∷ chain) number are owned =
       both_false _ _
@@ -77,7 +77,7 @@ module _ (shape : Shape) (s : State) where
   pub record IsNewPlace (chain : List PlaceAt) (d p : ℕ) : Type 0 where
     pub free : IsFree shape.devices shape.places (record { device = d; place = p })
     pub unowned : is_owned_in (number_of shape.places d p) ≡ false
-    pub beside : has_place shape.places chain (number_of shape.places d p) ≡ false
+    pub beside : chain_has shape.places chain (number_of shape.places d p) ≡ false
 
   -- each place of new blocks is one
   pub new_place : (chain : List PlaceAt) (new : List FoundBlock) (d p : ℕ) → AreNewBlocks shape s chain new → owns (map put_of new) d p ≡ true → IsNewPlace chain d p
@@ -107,6 +107,6 @@ module _ (shape : Shape) (s : State) where
   pub new_distinct : (chain : List PlaceAt) (new : List FoundBlock) → AreNewBlocks shape s chain new → AreDistinct (map put_of new)
   new_distinct chain [] are = tt
   new_distinct chain (block ∷ new) are = (
-    owns_of_places new block.device block.place ∙ lacks shape.places (map place_of new) block.device block.place are.3,
+    owns_of_places new block.device block.place ∙ lacks shape.places (map place_of_block new) block.device block.place are.3,
     new_distinct chain new are.4,
   )

@@ -16,7 +16,7 @@ use Rattle.zc_tree.specs.Catalogue.{catalogue_bytes, AreDatasets}
 use Rattle.zc_tree.specs.declared.tree.Tree.{Tree}
 use Rattle.zc_catalog.specs.Chain.{chain_length, links}
 use Rattle.zc_damage.specs.declared.block.FoundBlock.{FoundBlock}
-use Rattle.zc_damage.specs.Places.{number_of, is_to, is_reached, has_place, is_owned, bytes_in}
+use Rattle.zc_damage.specs.Places.{number_of, is_to, is_reached, chain_has, is_owned, bytes_in}
 use Rattle.zc_damage.specs.Checks.{owner_hit}
 use Rattle.zc_damage.specs.Passed.{AreOfOneBlock, HaveOneOwner}
 use Rattle.zc_damage.proofs.PartsLaws.{reach_places}
@@ -25,12 +25,12 @@ use Rattle.zc_damage.proofs.LateLaws.{charge_none, none_charge}
 use Rattle.zc_layout.specs.Layout.{Put, owns, IsAmong, AreDistinct, at_places}
 use Rattle.zc_layout.specs.Standing.{Covers, LeadsTo, Begins}
 use Rattle.zc_layout.proofs.LayoutLaws.{owns_not_both, distinct_append, distinct_at_places, owns_at_places_within, covers_from_among, covers_append, among_front, among_back}
-use Rattle.zc_state.specs.State.{State, IsState, AreChainPlaces, block_places, place_at, place_of, put_of, layout as layout_of, standing_of, HasDigest}
+use Rattle.zc_state.specs.State.{State, IsState, AreChainPlaces, block_places, place_at, place_of_block, put_of, layout as layout_of, standing_of, HasDigest}
 use Rattle.zc_state.proofs.Pointers.{ArePtrs, parts_have_ptrs}
 use Rattle.zc_state.proofs.BlockLaws.{all_mapped, all_of_two, each_reached, pointers_owned}
 use Rattle.zc_state.proofs.OwnedPlaces.{owned_means, beside_roots, block_is_among}
 use Rattle.zc_next.specs.Exact.{AreExact, exact_state}
-use Rattle.zc_next.specs.Next.{later_tree, gathered, next_blocks, next_state, next_bytes, next_puts, IsUnowned, IsKept, IsWritten, IsNext}
+use Rattle.zc_next.specs.Next.{later_tree, blocks_at, next_blocks, next_state, next_bytes, next_puts, IsUnowned, IsKept, IsWritten, IsNext}
 use Rattle.zc_next.proofs.TreePointers.{datasets_have_ptrs, later_datasets, tail_same, IsSameAt}
 use Rattle.zc_next.proofs.BlockLists.{holds_there, owns_both, each_there, each_has_its_bytes, bytes_in_front, bytes_in_back, places_of_gathered, bytes_of_gathered}
 use Rattle.zc_next.proofs.NewPlaces.{same_place, chain_apart, chain_beside_fixed, is_owned_in, chain_beside_owned, chain_place_beside_owned, IsNewPlace, new_place, new_beside_owned, new_beside_fixed, new_beside_chain, new_distinct}
@@ -38,7 +38,7 @@ use Rattle.zc_next.proofs.NewPlaces.{same_place, chain_apart, chain_beside_fixed
 -- a reached place is owned
 reached_is_owned : (devices places : ℕ) (chain : List PlaceAt) (reach : List Ptr) (number : ℕ) → is_reached places reach number ≡ true → is_owned devices places chain reach number ≡ true
 reached_is_owned devices places chain reach number there =
-    or_left (is_reached places reach number) (has_place places chain number || is_fixed devices places (number / places) (number % places)) there
+    or_left (is_reached places reach number) (chain_has places chain number || is_fixed devices places (number / places) (number % places)) there
 
 -- what holds at the place of each pointer holds at the place of each number that is reached
 at_reached : (P : ℕ → ℕ → Type 0) (devices places : ℕ) (reach : List Ptr) (number : ℕ) → ArePtrs devices places reach → AllByRecursion (λ (ptr : Ptr). P ptr.device ptr.place) reach
@@ -87,8 +87,8 @@ among_either put [] old among = inr among
 among_either put (block ∷ new) old (inl here) = inl (inl here)
 among_either put (block ∷ new) old (inr behind) = ⊎_elim (λ (fresh : IsAmong put (map put_of new)). inl (inr fresh)) (λ (before : IsAmong put (map put_of old)). inr before) (among_either put new old behind)
 
--- gathered blocks are covered where each is
-gathered_covered : (places : List PlaceAt) (blocks : List FoundBlock) (puts old : List Put) → AllByRecursion (IsPutThere blocks puts old) places → Covers (map put_of (gathered places blocks)) puts old
+-- blocks_at blocks are covered where each is
+gathered_covered : (places : List PlaceAt) (blocks : List FoundBlock) (puts old : List Put) → AllByRecursion (IsPutThere blocks puts old) places → Covers (map put_of (blocks_at places blocks)) puts old
 gathered_covered [] blocks puts old all = tt
 gathered_covered (at ∷ places) blocks puts old all = (all.0, gathered_covered places blocks puts old all.1)
 
@@ -201,7 +201,7 @@ module _ (shape : Shape) (s : State) (chain : List PlaceAt) (tree : Tree) (new :
       ⊎_elim (λ (old : HasOldBlock other). absurd (not_both other one old fresh (sym same))) (λ (fresh_too : HasNewBlock other). new_agree one other here.fits there.fits fresh fresh_too same) there.block)
       here.block
 
-  beside_chain : (ptr : Ptr) → HasBlock ptr → has_place shape.places chain (number_of shape.places ptr.device ptr.place) ≡ false
+  beside_chain : (ptr : Ptr) → HasBlock ptr → chain_has shape.places chain (number_of shape.places ptr.device ptr.place) ≡ false
   beside_chain ptr has =
       ⊎_elim
       (λ (old : HasOldBlock ptr). chain_beside_owned shape s chain (number_of shape.places ptr.device ptr.place) next.chain_unowned old.owned)
@@ -218,7 +218,7 @@ module _ (shape : Shape) (s : State) (chain : List PlaceAt) (tree : Tree) (new :
 
   -- ---- its blocks
 
-  blocks_are : map place_of (next_blocks shape tree new s.blocks) ≡ block_places shape.devices shape.places (pointers_of_tree tree)
+  blocks_are : map place_of_block (next_blocks shape tree new s.blocks) ≡ block_places shape.devices shape.places (pointers_of_tree tree)
   blocks_are = places_of_gathered (block_places shape.devices shape.places (pointers_of_tree tree)) (new ++ s.blocks)
 
   -- the bytes at the place of each pointer

@@ -14,7 +14,7 @@ use Rattle.zc_tree.specs.Spelling.{IsEntry, IsFile, IsDataset, IsLogState}
 use Rattle.zc_tree.specs.Reach.{pointers_of_file, pointers_of_files, pointers_of_datasets}
 use Rattle.zc_tree.specs.Catalogue.{AreDatasets}
 use Rattle.zc_damage.specs.Words.{or_else}
-use Rattle.zc_damage.specs.Checks.{last_block, last_pointer, byte_behind, tail_hit_with, tail_hit_in, tail_hit_of, tail_hit_among, tail_hit}
+use Rattle.zc_damage.specs.Checks.{last_block, last_pointer, byte_after, tail_hit_with, tail_hit_in, tail_hit_of, tail_hit_among, tail_hit}
 use Rattle.zc_state.proofs.Pointers.{ArePtrs, all_joined}
 
 -- ---- a pool of this size may have them
@@ -97,7 +97,7 @@ file_tail_same one other file same = at (last_pointer file) refl where
 
   at : (last : Option Ptr) → last_pointer file ≡ last → tail_hit_in one file.size last ≡ tail_hit_in other file.size last
   at None is = refl
-  at (Some ptr) is = ap (λ (bytes : List ℕ). tail_hit_with ptr (byte_behind (file.size - 4096 * last_block file.size) bytes)) (found (eqb file.size 0) ptr is)
+  at (Some ptr) is = ap (λ (bytes : List ℕ). tail_hit_with ptr (byte_after (file.size - 4096 * last_block file.size) bytes)) (found (eqb file.size 0) ptr is)
 
 files_tail_same : (one other : ℕ → ℕ → List ℕ) (files : List File) → AllByRecursion (IsSameAt one other) (pointers_of_files files) → tail_hit_among one files ≡ tail_hit_among other files
 files_tail_same one other [] same = refl

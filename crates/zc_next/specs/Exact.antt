@@ -22,7 +22,7 @@ use Rattle.zc_catalog.specs.Chain.{chain_length}
 use Rattle.zc_damage.specs.declared.block.FoundBlock.{FoundBlock}
 use Rattle.zc_damage.specs.Places.{extra_at, is_owned, bytes_in}
 use Rattle.zc_damage.specs.Checks.{birth_hit, log_hit, owner_hit, tail_hit, charge_hit}
-use Rattle.zc_state.specs.State.{State, AreChainPlaces, block_places, place_of, HasDigest}
+use Rattle.zc_state.specs.State.{State, AreChainPlaces, block_places, place_of_block, HasDigest}
 
 -- ---- tables and maps
 
@@ -108,7 +108,7 @@ pub record AreExact (shape : Shape) (chain : List PlaceAt) (tree : Tree) (blocks
   pub births : birth_hit tree.group (pointers_of_tree tree) ≡ None
   pub logs : log_hit shape.devices shape.places tree.datasets ≡ None
   pub owners : owner_hit shape.devices shape.places chain (pointers_of_tree tree) ≡ None
-  pub blocks_there : map place_of blocks ≡ block_places shape.devices shape.places (pointers_of_tree tree)
+  pub blocks_there : map place_of_block blocks ≡ block_places shape.devices shape.places (pointers_of_tree tree)
   pub digests : AllByRecursion (HasDigest blocks) (pointers_of_tree tree)
   pub tails : tail_hit (bytes_in blocks) tree.datasets ≡ None
   pub charge : charge_hit shape.devices shape.places tree.group (pointers_of_tree tree) ≡ None

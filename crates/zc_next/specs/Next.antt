@@ -11,20 +11,20 @@ use Rattle.zc_tree.specs.declared.tree.Tree.{Tree}
 use Rattle.zc_catalog.specs.Chain.{chain_length, links}
 use Rattle.zc_layout.specs.Layout.{Put, at_places}
 use Rattle.zc_damage.specs.declared.block.FoundBlock.{FoundBlock}
-use Rattle.zc_damage.specs.Places.{is_owned, has_place, bytes_in}
+use Rattle.zc_damage.specs.Places.{is_owned, chain_has, bytes_in}
 use Rattle.zc_damage.specs.Checks.{log_hit, tail_hit, charge_hit}
-use Rattle.zc_state.specs.State.{State, IsFree, AreChainPlaces, block_places, place_of, put_of}
+use Rattle.zc_state.specs.State.{State, IsFree, AreChainPlaces, block_places, place_of_block, put_of}
 use Rattle.zc_next.specs.Exact.{exact_parts, exact_state}
 
 -- ---- blocks
 
 -- the blocks at these places, each with the bytes that the blocks have there
-abbrev pub gathered : List PlaceAt → List FoundBlock → List FoundBlock
-gathered places blocks = map (λ at. record { device = at.device; place = at.place; bytes = bytes_in blocks at.device at.place }) places
+abbrev pub blocks_at : List PlaceAt → List FoundBlock → List FoundBlock
+blocks_at places blocks = map (λ at. record { device = at.device; place = at.place; bytes = bytes_in blocks at.device at.place }) places
 
 -- the blocks of a tree, each a new one or else one that was there before
 abbrev pub next_blocks : Shape → Tree → (new old : List FoundBlock) → List FoundBlock
-next_blocks shape tree new old = gathered (block_places shape.devices shape.places (pointers_of_tree tree)) (new ++ old)
+next_blocks shape tree new old = blocks_at (block_places shape.devices shape.places (pointers_of_tree tree)) (new ++ old)
 
 -- ---- the state, and what is written
 
@@ -74,9 +74,9 @@ pub record IsWritten (group : ℕ) (new : List FoundBlock) (ptr : Ptr) : Type 0 
 abbrev pub AreNewBlocks : Shape → State → List PlaceAt → List FoundBlock → Type 0
 AreNewBlocks shape s chain [] = Unit {0}
 AreNewBlocks shape s chain (block ∷ new) =
-    IsFree shape.devices shape.places (place_of block) × IsUnowned shape s (place_of block)
-    × (has_place shape.places chain (block.device * shape.places + block.place) ≡ false)
-    × (has_place shape.places (map place_of new) (block.device * shape.places + block.place) ≡ false)
+    IsFree shape.devices shape.places (place_of_block block) × IsUnowned shape s (place_of_block block)
+    × (chain_has shape.places chain (block.device * shape.places + block.place) ≡ false)
+    × (chain_has shape.places (map place_of_block new) (block.device * shape.places + block.place) ≡ false)
     × AreNewBlocks shape s chain new
 
 -- a group may lead from the state to one with this tree, this chain and these new blocks

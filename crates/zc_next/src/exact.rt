@@ -3,7 +3,7 @@ ghost use Rattle.std.specs.Prelude.{◌≡◌, ◌+◌, ◌*◌, ◌^◌, ◌<�
 ghost use Rattle.zc_num.specs.Words.{each};
 ghost use Rattle.zc_table.specs.Plain.{counts_of};
 ghost use Rattle.zc_table.specs.Counts.{region_sum};
-ghost use Rattle.zc_spacemap.specs.Held.{states_of};
+ghost use Rattle.zc_spacemap.specs.MapStates.{states_of};
 ghost use Rattle.zc_spacemap.specs.States.{state_of};
 ghost use Rattle.zc_damage.specs.Places.{extra_at, is_owned};
 ghost use Rattle.zc_next.specs.Exact.{exact_counts, exact_states};

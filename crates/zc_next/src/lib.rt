@@ -6,7 +6,5 @@
 #![tactic(auto)]
 
 mod exact;
-#[cfg(test)]
-mod tests;
 
 pub use exact::{exact_maps, exact_tables};

@@ -19,18 +19,18 @@ use Rattle.zc_heart.specs.Core.{AreApart}
 use Rattle.zc_open.specs.declared.ack.Ack.{Ack}
 use Rattle.zc_open.specs.declared.ack.Waiting.{Waiting}
 use Rattle.zc_open.specs.declared.open_pool.OpenPool.{OpenPool}
-use Rattle.zc_open.specs.Events.{begun_pool, waiting_of, without_waiting, IsAsBefore, Asks, AsksCommit, ack_of, ended, EndsWait, Finishes, failed_behind}
+use Rattle.zc_open.specs.Events.{begun_pool, waiting_of, without_waiting, IsAsBefore, Asks, AsksCommit, ack_of, ended, EndsWait, Finishes, failed_after}
 use Rattle.zc_open.specs.Acked.{AskAt, Acked, is_ok, asks_of, asks_without, acked_entry, acked_after, wait_at, ack_at, AreAcks}
 
 -- ---- the history
 
--- behind more entries
-abbrev acked_behind : Acked → List Entry → Acked
-acked_behind acked more = fold acked_entry acked more
+-- after more entries
+abbrev acked_with_more : Acked → List Entry → Acked
+acked_with_more acked more = fold acked_entry acked more
 
 -- a history in two parts
-acked_append : (front back : List Entry) (acked : Acked) → acked_after front ≡ acked → acked_after (front ++ back) ≡ acked_behind acked back
-acked_append front back acked is = fold-append acked_entry (record { entries = 0; waits = []; done = [] }) front back ∙ ap (λ (behind : Acked). acked_behind behind back) is
+acked_append : (front back : List Entry) (acked : Acked) → acked_after front ≡ acked → acked_after (front ++ back) ≡ acked_with_more acked back
+acked_append front back acked is = fold-append acked_entry (record { entries = 0; waits = []; done = [] }) front back ∙ ap (λ (behind : Acked). acked_with_more behind back) is
 
 -- so many entries, these waits, and these that were answered Done
 abbrev stands_so : ℕ → List AskAt → List AskAt → Acked
@@ -139,10 +139,10 @@ apart_fewer session (waiting ∷ waits) apart = by_test (waiting.session == sess
   by_test false rest none = (none, rest)
 
 -- nor is anybody else among those that wait with one more
-not_behind : (one : ℕ) (waits : List Waiting) (waiting : Waiting) → (waiting.session == one) ≡ false → is_among one waits ≡ false → is_among one (waits ++ waiting ∷ []) ≡ false
-not_behind one [] waiting differ none = ap (λ (test : Bool). test || false) differ
-not_behind one (next ∷ waits) waiting differ none =
-    fails_with (next.session == one) (is_among one waits) (is_among one (waits ++ waiting ∷ [])) none (not_behind one waits waiting differ)
+not_after : (one : ℕ) (waits : List Waiting) (waiting : Waiting) → (waiting.session == one) ≡ false → is_among one waits ≡ false → is_among one (waits ++ waiting ∷ []) ≡ false
+not_after one [] waiting differ none = ap (λ (test : Bool). test || false) differ
+not_after one (next ∷ waits) waiting differ none =
+    fails_with (next.session == one) (is_among one waits) (is_among one (waits ++ waiting ∷ [])) none (not_after one waits waiting differ)
 
 other_way : (a b : ℕ) → (a == b) ≡ false → (b == a) ≡ false
 other_way a b differ = false_from_ne_true (b == a) (λ same. false≢true (sym differ ∙ eq-eqb a b (sym (eqb-true b a same))))
@@ -154,7 +154,7 @@ apart_more (first ∷ waits) waiting apart none = by_test (first.session == wait
   by_test : (test : Bool) → (first.session == waiting.session) ≡ test → (test || is_among waiting.session waits) ≡ false
       → (is_among waiting.session waits ≡ false → AreApart (map session_of (waits ++ waiting ∷ []))) → AreApart (map session_of (first ∷ waits ++ waiting ∷ []))
   by_test true is none rest = absurd (false≢true (sym none))
-  by_test false is none rest = (not_behind first.session waits waiting (other_way first.session waiting.session is) apart.0, rest none)
+  by_test false is none rest = (not_after first.session waits waiting (other_way first.session waiting.session is) apart.0, rest none)
 
 -- ---- what a call adds
 
@@ -164,12 +164,12 @@ acks_begun heart group calls = record { acked = refl; apart = tt }
 pub acks_before : (old new : OpenPool) → AreAcks old → IsAsBefore old new → AreAcks new
 acks_before old new acks (stays, rest) = subst AreAcks (sym rest) (record { acked = acks.acked; apart = acks.apart })
 
-pub acks_fails : (old : OpenPool) (made : ℕ) → AreAcks old → AreAcks (failed_behind old made)
+pub acks_fails : (old : OpenPool) (made : ℕ) → AreAcks old → AreAcks (failed_after old made)
 acks_fails old made acks = record { acked = acks.acked; apart = acks.apart }
 
 -- a command was asked and answered: nobody waits for it
 asked_now : (session : ℕ) (command : Command) (reply : Reply) (entries : ℕ) (waits : List Waiting) (done : List AskAt) → is_waiting command ≡ false → waiting_of session waits ≡ None
-    → acked_behind (stands_so entries (map wait_at waits) done) (Ask session command ∷ Answer session reply ∷ []) ≡ stands_so (entries + 1 + 1) (map wait_at waits) done
+    → acked_with_more (stands_so entries (map wait_at waits) done) (Ask session command ∷ Answer session reply ∷ []) ≡ stands_so (entries + 1 + 1) (map wait_at waits) done
 asked_now session command reply entries waits done at_once none = rw (at_once, (no_asks session waits none).0, (no_asks session waits none).1) (by_reply (is_ok reply)) where
   by_reply : (ok : Bool) → stands_so (entries + 1 + 1) (map wait_at waits) (cond ok (done ++ []) done) ≡ stands_so (entries + 1 + 1) (map wait_at waits) done
   by_reply true = ap (stands_so (entries + 1 + 1) (map wait_at waits)) (append-nil done)
@@ -193,7 +193,7 @@ acks_asks old new session command reply none acks asks = subst AreAcks (sym asks
 pub acks_commit : (old new : OpenPool) (session : ℕ) → waiting_of session old.waits ≡ None → AreAcks old → AsksCommit old new session → AreAcks new
 acks_commit old new session none acks asks = subst AreAcks (sym asks.rest) (record {
   acked = acked_append old.history (Ask session Commit ∷ Seal old.heart.group ∷ []) _ acks.acked
-      ∙ ap (λ (n : ℕ). stands_so n (map wait_at old.waits ++ record { session = session; ask = length old.history + 1 } ∷ []) (map ack_at old.acks)) (counted_two old.history (Ask session Commit) (Seal old.heart.group))
+      ∙ ap (λ (n : ℕ). stands_so n (map wait_at old.waits ++ record { session = session; ask = length old.history + 1; dataset = None } ∷ []) (map ack_at old.acks)) (counted_two old.history (Ask session Commit) (Seal old.heart.group))
       ∙ ap (λ (waits : List AskAt). stands_so (length (old.history ++ Ask session Commit ∷ Seal old.heart.group ∷ [])) waits (map ack_at old.acks)) (sym (map-append wait_at old.waits (record { session = session; ask = length old.history + 1; group = old.heart.group } ∷ [])));
   apart = apart_more old.waits (record { session = session; ask = length old.history + 1; group = old.heart.group }) acks.apart (not_among session old.waits none);
 })

@@ -159,7 +159,7 @@ unfolding progress
 state_of_progress p [] = refl
 state_of_progress p (one ∷ history) = state_of_progress (progress p one) history
 
--- the files are those behind the history
+-- the files are those after the history
 pub heard_pool : (start : PlainPool) (claim : ℕ) (pool : OpenPool) → IsHeard start claim pool → pool_of pool.heart ≡ (state_after start pool.history).pool
 heard_pool start claim pool heard = heard.pool_is ∙ ap (λ (state : PlainState). state.pool) (state_of_progress _ pool.history)
 
@@ -175,7 +175,7 @@ areas_of_core core is = record {
   apart = is.apart;
 }
 
--- the next numbers behind so many entries
+-- the next numbers after so many entries
 next_numbers : (start : PlainPool) (history : List Entry) → Each MeetsConditions history → IsState (begun start) → length history ≤ 2 ^ 62 → AreNextUpTo (2 ^ 64 - 1) (state_after start history).pool
 next_numbers start history meet is few =
     let counted = (state_is_state start history meet is).counted in

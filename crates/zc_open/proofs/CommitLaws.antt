@@ -1,4 +1,4 @@
--- What a commit adds to a pool, by what is pushed before the seal and what is set behind it.
+-- What a commit adds to a pool, by what is pushed before the seal and what is set after it.
 use Rattle.std.proofs.Common.{◌≡◌, ℕ, ◌+◌, false, List, [], ◌∷◌, ◌++◌, length, ap, subst, ◌∙◌}
 use Rattle.std.specs.Prelude.{slice_set}
 use Rattle.zc_command.specs.declared.command.Command.TheVariants.{Commit}

@@ -3,9 +3,9 @@ use Rattle.std.proofs.Common.{◌≡◌, ℕ, zero, suc, ◌+◌, List, [], ◌�
 use Rattle.std.specs.Prelude.{slice_set}
 use Rattle.std.proofs.Math.Seq.{take-append_seam}
 
--- one pushed behind another
-pub two_behind : {A : Type 0} (xs : List A) (a b : A) → (xs ++ a ∷ []) ++ b ∷ [] ≡ xs ++ a ∷ b ∷ []
-two_behind xs a b = append_assoc xs (a ∷ []) (b ∷ [])
+-- one pushed after another
+pub two_after : {A : Type 0} (xs : List A) (a b : A) → (xs ++ a ∷ []) ++ b ∷ [] ≡ xs ++ a ∷ b ∷ []
+two_after xs a b = append_assoc xs (a ∷ []) (b ∷ [])
 
 -- what stood there before more was pushed
 pub front_of_more : {A : Type 0} (xs more : List A) → take (length xs) (xs ++ more) ≡ xs

@@ -17,7 +17,7 @@ use Rattle.zc_plain.specs.declared.entry.Entry.{Entry}
 use Rattle.zc_plain.specs.declared.entry.Entry.TheVariants.{Ask, Answer, Seal, Finish}
 use Rattle.zc_plain.specs.Charge.{held_by, tally_of, with_finish}
 use Rattle.zc_plain.specs.Answer.{answer, settled}
-use Rattle.zc_plain.specs.History.{PlainState, MeetsConditions, tally_behind, next_number, step, state_after, pool_after}
+use Rattle.zc_plain.specs.History.{PlainState, MeetsConditions, tally_after, next_number, step, state_after, pool_after}
 use Rattle.zc_plain.specs.IsPlain.{AreNextUpTo, IsState}
 use Rattle.zc_plain.specs.Legal.{Nothing, Wait, Unfinished, Progress, at_start, is_eio, is_over, without_wait, MayEnd, AreLegal, IsLegal, progress}
 use Rattle.zc_plain.specs.Legal.{wait_of as found_wait}
@@ -32,11 +32,12 @@ use Rattle.zc_open.specs.declared.ack.Ack.{Ack}
 use Rattle.zc_open.specs.declared.ack.Waiting.{Waiting}
 use Rattle.zc_open.specs.declared.open_pool.OpenPool.{OpenPool}
 use Rattle.zc_open.specs.Since.{Since, is_changed_by, since_after}
-use Rattle.zc_open.specs.Events.{begun_pool, waiting_of, without_waiting, IsAsBefore, Asks, AsksCommit, ack_of, ended, EndsWait, HasJob, Notes, forgotten, FinishesNoted, Finishes, failed_behind}
+use Rattle.zc_open.specs.Events.{begun_pool, waiting_of, without_waiting, IsAsBefore, Asks, AsksCommit, ack_of, ended, EndsWait, HasJob, Notes, forgotten, FinishesNoted, Finishes, failed_after}
 use Rattle.zc_open.specs.Heard.{IsStart, progress_after, wait_of, unfinished_of, IsAskedBy, AreNumbered, calls_left, IsHeard}
 use Rattle.zc_open.specs.Points.{AreJobsOf}
+use Rattle.zc_open.proofs.PastLaws.{item_before}
 use Rattle.zc_open.proofs.SinceLaws.{settled_since, since_asked, since_sealed, since_answered, since_finished}
-use Rattle.zc_open.proofs.ProgressLaws.{progress_append, legal_append, state_of_progress, number_of_progress, reply_at_once, pool_asked, tally_asked, pool_sealed, tally_sealed, pool_answered, tally_answered, pool_finished, tally_finished, progress_asked, legal_asked, sealed_behind, progress_sealed, legal_sealed, progress_answered, legal_answered, progress_finished, legal_finished, legal_failed}
+use Rattle.zc_open.proofs.ProgressLaws.{progress_append, legal_append, state_of_progress, number_of_progress, reply_at_once, pool_asked, tally_asked, pool_sealed, tally_sealed, pool_answered, tally_answered, pool_finished, tally_finished, progress_asked, legal_asked, sealed_after, progress_sealed, legal_sealed, progress_answered, legal_answered, progress_finished, legal_finished, legal_failed}
 
 -- ---- lists
 
@@ -55,15 +56,16 @@ all_kept P test (x ∷ xs) all = by_test (test x) (all_kept P test xs all.1) whe
   by_test true others = (all.0, others)
   by_test false others = others
 
--- an item stands where it stood, however the list goes on
-item_before : {X : Type 0} (front back : List X) (i : ℕ) (x : X) → slice_get front i ≡ Some x → slice_get (front ++ back) i ≡ Some x
-item_before [] back i x is = absurd (none-some x is)
-item_before (y ∷ front) back zero x is = is
-item_before (y ∷ front) back (suc i) x is = item_before front back i x is
+-- the item after a front, and the next
+item_after : {X : Type 0} (front : List X) (x : X) (back : List X) → slice_get (front ++ x ∷ back) (length front) ≡ Some x
+item_after [] x back = refl
+item_after (y ∷ front) x back = item_after front x back
 
-item_behind : {X : Type 0} (front : List X) (x : X) (back : List X) → slice_get (front ++ x ∷ back) (length front) ≡ Some x
-item_behind [] x back = refl
-item_behind (y ∷ front) x back = item_behind front x back
+pub next_after : {X : Type 0} (front : List X) (one two : X) (back : List X) → slice_get (front ++ one ∷ two ∷ back) (length front + 1) ≡ Some two
+next_after [] one two back = refl
+next_after (y ∷ front) one two back =
+    let place : suc (length front + 1) ≡ suc (length front) + 1 = omega arith in
+    subst (λ (n : ℕ). slice_get (y ∷ front ++ one ∷ two ∷ back) n ≡ Some two) place (next_after front one two back)
 
 -- ---- who waits
 
@@ -102,13 +104,13 @@ asked_longer : (history more : List Entry) (group next : ℕ) (waits : List Wait
 asked_longer history more group next [] later asked = tt
 asked_longer history more group next (waiting ∷ waits) later asked =
     let one = asked.0 in
-    ((one.0, omega (arith, one.1), item_before history more (waiting.ask - 1) (Ask waiting.session Commit) one.2), asked_longer history more group next waits later asked.1)
+    ((one.0, omega (arith, one.1), item_before history more (waiting.ask - 1) (Ask waiting.session Commit) one.2, item_before history more waiting.ask (Seal waiting.group) one.3), asked_longer history more group next waits later asked.1)
 
 -- and so does the one that is asked now
-asked_now : (history more : List Entry) (session group next : ℕ) → group < next → IsAskedBy (history ++ Ask session Commit ∷ more) next (record { session = session; ask = length history + 1; group = group })
-asked_now history more session group next later =
+asked_now : (history : List Entry) (session group next : ℕ) → group < next → IsAskedBy (history ++ Ask session Commit ∷ Seal group ∷ []) next (record { session = session; ask = length history + 1; group = group })
+asked_now history session group next later =
     let place : length history + 1 - 1 ≡ length history = omega arith in
-    (omega arith, later, ap (λ (n : ℕ). slice_get (history ++ Ask session Commit ∷ more) n) place ∙ item_behind history (Ask session Commit) more)
+    (omega arith, later, ap (λ (n : ℕ). slice_get (history ++ Ask session Commit ∷ Seal group ∷ []) n) place ∙ item_after history (Ask session Commit) (Seal group ∷ []), next_after history (Ask session Commit) (Seal group) [])
 
 -- ---- the groups that aren't finished
 
@@ -124,7 +126,7 @@ jobs_and_one : (jobs : List Sealed) (before : List Unfinished) (one : Sealed) (g
     → before ++ record { group = group; held = held } ∷ [] ≡ map unfinished_of (jobs ++ one ∷ [])
 jobs_and_one jobs before one group held same is_group is_held = rw (same, ← is_group, ← is_held) (sym (map_push unfinished_of jobs one))
 
--- a wait is over where every group that is left is behind its own
+-- a wait is over where every group that is left is after its own
 over_before : (session group from : ℕ) (jobs : List Sealed) (to : ℕ) → group < from → AreNumbered from jobs to → is_over (record { session = session; group = group }) (map unfinished_of jobs) ≡ true
 over_before session group from [] to before numbered = refl
 over_before session group from (job ∷ jobs) to before numbered =
@@ -175,9 +177,9 @@ heard_from start claim pool hears = record {
 }
 
 -- once it is known what more entries leave
-heard_behind : (start : PlainPool) (claim : ℕ) (old : OpenPool) (more : List Entry) (new : OpenPool) (q : Progress) → new.history ≡ old.history ++ more
+heard_after : (start : PlainPool) (claim : ℕ) (old : OpenPool) (more : List Entry) (new : OpenPool) (q : Progress) → new.history ≡ old.history ++ more
     → fold progress (progress_after start claim old.history) more ≡ q → Hears start claim new q → IsHeard start claim new
-heard_behind start claim old more new q longer behind hears =
+heard_after start claim old more new q longer behind hears =
     let same : progress_after start claim new.history ≡ q = ap (progress_after start claim) longer ∙ progress_append start claim old.history more ∙ behind in
     heard_from start claim new (subst (λ (p : Progress). Hears start claim new p) (sym same) hears)
 
@@ -206,11 +208,11 @@ heard_begun limits start heart group calls is same agrees next none few = record
 -- ---- a command that is answered at once
 
 -- what plain files answer, at the progress of the history
-replies_behind : (number : ℕ) (command : Command) (reply : Reply) (old new : Core) (state : PlainState) → Replies number command old new (Ok reply) → pool_of old ≡ state.pool
+replies_after : (number : ℕ) (command : Command) (reply : Reply) (old new : Core) (state : PlainState) → Replies number command old new (Ok reply) → pool_of old ≡ state.pool
     → Agrees state.tally old → next_number state ≡ number
-    → (settled state.pool (answer (next_number state) state.tally state.pool command) ≡ (reply, pool_of new)) × Agrees (tally_behind (next_number state) state.tally state.pool command) new
-replies_behind number command reply old new state replies same agrees counted =
-    let P = λ (n : ℕ) (pool : PlainPool). (settled pool (answer n state.tally pool command) ≡ (reply, pool_of new)) × Agrees (tally_behind n state.tally pool command) new in
+    → (settled state.pool (answer (next_number state) state.tally state.pool command) ≡ (reply, pool_of new)) × Agrees (tally_after (next_number state) state.tally state.pool command) new
+replies_after number command reply old new state replies same agrees counted =
+    let P = λ (n : ℕ) (pool : PlainPool). (settled pool (answer n state.tally pool command) ≡ (reply, pool_of new)) × Agrees (tally_after n state.tally pool command) new in
     subst (λ (n : ℕ). P n state.pool) (sym counted) (subst (λ (pool : PlainPool). P number pool) same (replies state.tally agrees))
 
 -- the pool once the command is answered
@@ -228,7 +230,7 @@ asks_heard : (start : PlainPool) (claim : ℕ) (old new : OpenPool) (session : �
 asks_heard start claim old new session command reply meets free is asks =
     let p = progress_after start claim old.history in
     let more : List Entry = Ask session command ∷ Answer session reply ∷ [] in
-    let behind = replies_behind (length old.history + 1) command reply old.heart new.heart p.state asks.replies is.pool_is is.tally (number_of_progress start claim old.history) in
+    let behind = replies_after (length old.history + 1) command reply old.heart new.heart p.state asks.replies is.pool_is is.tally (number_of_progress start claim old.history) in
     let told = reply_at_once p.state session command reply (pool_of new.heart) asks.at_once behind.0 in
     let nobody : found_wait session p.waits ≡ None = ap (found_wait session) is.waits ∙ wait_found session old.waits ∙ ap (option_map wait_of) free in
     let longer : length (old.history ++ more) ≡ length old.history + 2 = length-append old.history more in
@@ -259,10 +261,10 @@ pub heard_asks : (start : PlainPool) (claim : ℕ) (old new : OpenPool) (session
 heard_asks start claim old new session command reply meets free is asks =
     let p = progress_after start claim old.history in
     let more : List Entry = Ask session command ∷ Answer session reply ∷ [] in
-    let behind = replies_behind (length old.history + 1) command reply old.heart new.heart p.state asks.replies is.pool_is is.tally (number_of_progress start claim old.history) in
+    let behind = replies_after (length old.history + 1) command reply old.heart new.heart p.state asks.replies is.pool_is is.tally (number_of_progress start claim old.history) in
     let told = reply_at_once p.state session command reply (pool_of new.heart) asks.at_once behind.0 in
     subst (IsHeard start claim) (sym asks.rest)
-    (heard_behind start claim old more (asked_pool old new.heart session command reply) (record p { due = Nothing; state = fold step p.state more }) refl
+    (heard_after start claim old more (asked_pool old new.heart session command reply) (record p { due = Nothing; state = fold step p.state more }) refl
     (progress_asked p session command reply told) (asks_heard start claim old new session command reply meets free is asks))
 
 -- ---- a commit
@@ -279,7 +281,7 @@ sealed_pool old heart session sealed = record old {
 commit_heard : (start : PlainPool) (claim : ℕ) (old : OpenPool) (heart : Core) (session : ℕ) (sealed : Sealed)
     → waiting_of session old.waits ≡ None → IsHeard start claim old → IsSealed old.heart heart sealed
     → Hears start claim (sealed_pool old heart session sealed)
-    (sealed_behind (progress_after start claim old.history) session old.heart.group (held_by (progress_after start claim old.history).state.pool)
+    (sealed_after (progress_after start claim old.history) session old.heart.group (held_by (progress_after start claim old.history).state.pool)
     (fold step (progress_after start claim old.history).state (Ask session Commit ∷ Seal old.heart.group ∷ [])))
 commit_heard start claim old heart session sealed free is is_sealed =
     let p = progress_after start claim old.history in
@@ -304,7 +306,7 @@ commit_heard start claim old heart session sealed free is is_sealed =
       numbered = subst (AreNumbered (old.group + 1) (old.jobs ++ sealed ∷ [])) (sym next) (numbered_and_one (old.group + 1) old.jobs old.heart.group sealed is.numbered is_sealed.group_is);
       asked = all_and_one (IsAskedBy (old.history ++ more) heart.group) old.waits (record { session = session; ask = length old.history + 1; group = old.heart.group })
           (asked_longer old.history more old.heart.group heart.group old.waits (omega arith) is.asked)
-          (asked_now old.history (Seal old.heart.group ∷ []) session old.heart.group heart.group (omega arith));
+          (asked_now old.history session old.heart.group heart.group (omega arith));
       since = since_sealed old.history old.changed session old.heart.group Commit is.since;
       last = omega arith;
       groups = omega arith;
@@ -317,7 +319,7 @@ heard_commit start claim old new session free is asks =
     let p = progress_after start claim old.history in
     let more : List Entry = Ask session Commit ∷ Seal old.heart.group ∷ [] in
     subst (IsHeard start claim) (sym asks.rest)
-    (heard_behind start claim old more (sealed_pool old new.heart session asks.sealed) (sealed_behind p session old.heart.group (held_by p.state.pool) (fold step p.state more)) refl
+    (heard_after start claim old more (sealed_pool old new.heart session asks.sealed) (sealed_after p session old.heart.group (held_by p.state.pool) (fold step p.state more)) refl
     (progress_sealed p session old.heart.group) (commit_heard start claim old new.heart session asks.sealed free is asks.is_sealed))
 
 -- ---- the end of a wait
@@ -338,7 +340,7 @@ ended_heard start claim old waiting reply acks is found may failed =
     let last = is.last in
     let groups = is.groups in
     let calls = is.calls in
-    heard_behind start claim old more (ended old waiting reply acks)
+    heard_after start claim old more (ended old waiting reply acks)
     (record p { waits = without_wait waiting.session p.waits; failed = p.failed || is_eio reply; state = step p.state (Answer waiting.session reply) }) refl
     (progress_answered p waiting.session reply is.due)
     (record {
@@ -410,7 +412,7 @@ finished_heard start claim old heart job others made done is none few small jobs
     let groups = is.groups in
     let calls : old.calls + 2 ^ 64 ≤ 2 ^ 64 * (length old.history + 2) = subst (λ (failed : Option ℕ). old.calls + calls_left failed ≤ 2 ^ 64 * (length old.history + 2)) none is.calls in
     let more_calls : old.calls + made + 2 ^ 64 ≤ 2 ^ 64 * (length (old.history ++ more) + 2) = omega arith in
-    heard_behind start claim old more (finished_pool old heart job others made)
+    heard_after start claim old more (finished_pool old heart job others made)
     (record p { unfinished = drop 1 p.unfinished; state = step p.state (Finish job.group job.held) }) refl
     (progress_finished p job.group job.held)
     (record {
@@ -448,7 +450,7 @@ heard_finishes start claim old new made done is none few small are finishes =
 -- ---- a call that failed
 
 -- what was legal where no call failed is legal where this one did
-pub heard_fails : (start : PlainPool) (claim : ℕ) (old : OpenPool) (made : ℕ) → IsHeard start claim old → old.failed ≡ None → made < 2 ^ 64 → IsHeard start claim (failed_behind old made)
+pub heard_fails : (start : PlainPool) (claim : ℕ) (old : OpenPool) (made : ℕ) → IsHeard start claim old → old.failed ≡ None → made < 2 ^ 64 → IsHeard start claim (failed_after old made)
 heard_fails start claim old made is none few =
     let legal : AreLegal None (at_start start claim) old.history = subst (λ (failed : Option ℕ). AreLegal failed (at_start start claim) old.history) none is.legal in
     let calls : old.calls + 2 ^ 64 ≤ 2 ^ 64 * (length old.history + 2) = subst (λ (failed : Option ℕ). old.calls + calls_left failed ≤ 2 ^ 64 * (length old.history + 2)) none is.calls in
@@ -577,7 +579,7 @@ settled_is start claim pool is = (
   ap (λ (since : Since). since.changed) is.since,
 )
 
--- the first job is of the group behind that of the root
+-- the first job is of the group after that of the root
 pub first_is_next : (start : PlainPool) (claim : ℕ) (pool : OpenPool) (job : Sealed) (others : List Sealed) → IsHeard start claim pool → HasJob pool job others → job.group ≡ pool.group + 1
 first_is_next start claim pool job others is has =
     let numbered : AreNumbered (pool.group + 1) (job ∷ others) pool.heart.group = subst (λ (jobs : List Sealed). AreNumbered (pool.group + 1) jobs pool.heart.group) has.jobs_are is.numbered in
@@ -603,7 +605,7 @@ wait_is_over start claim pool session waiting is none found =
     let asked = wait_is_asked start claim pool session waiting is found in
     omega (arith, asked.1, numbered)
 
--- the group that is sealed next stands behind that of the root and those of the jobs, and is the one that a seal may have
+-- the group that is sealed next stands after that of the root and those of the jobs, and is the one that a seal may have
 pub seal_is_next : (start : PlainPool) (claim : ℕ) (pool : OpenPool) → IsHeard start claim pool
     → (pool.heart.group ≡ (progress_after start claim pool.history).last + 1) × (pool.heart.group ≡ pool.group + 1 + length pool.jobs)
 seal_is_next start claim pool is = (is.next_group, sym (numbered_count (pool.group + 1) pool.jobs pool.heart.group is.numbered))

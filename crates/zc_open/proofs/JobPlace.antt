@@ -9,7 +9,7 @@ use Rattle.zc_heart.specs.declared.changes.Sealed.{Sealed}
 use Rattle.zc_open.specs.declared.open_pool.OpenPool.{OpenPool}
 use Rattle.zc_open.specs.Events.{Notes}
 
--- the item at the first place, and those behind it
+-- the item at the first place, and those after it
 first_and_rest : (jobs : List Sealed) (job : Sealed) → slice_get jobs 0 ≡ Some job → jobs ≡ job ∷ drop 1 jobs
 first_and_rest [] job first = cc
 first_and_rest (one ∷ others) job first = cc

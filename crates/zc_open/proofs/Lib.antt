@@ -9,4 +9,5 @@ pub mod LeaveLaws
 pub mod PastLaws
 pub mod PointLaws
 pub mod ProgressLaws
+pub mod SealLaws
 pub mod SinceLaws

@@ -1,12 +1,14 @@
 -- What is true of the past stays true once the history has grown.
-use Rattle.std.proofs.Common.{◌≡◌, ℕ, ◌+◌, ◌<◌, ◌≤◌, ◌==◌, Bool, true, false, not, List, [], ◌∷◌, ◌++◌, length, Some, sym, ap, subst, ◌∙◌, ⊎_elim, arith}
+use Rattle.std.proofs.Common.{◌≡◌, ℕ, zero, suc, ◌+◌, ◌<◌, ◌≤◌, ◌==◌, Bool, true, false, not, List, [], ◌∷◌, ◌++◌, length, slice_get, Some, sym, ap, subst, ◌∙◌, ⊎_elim, arith}
 use Rattle.std.specs.Prelude.{filter, refl}
 use Rattle.std.specs.List.{AllByRecursion}
 use Rattle.std.proofs.lemmas.Bool.{cases_Bool}
 use Rattle.std.proofs.lemmas.List.{length-append, take-append-le}
+use Rattle.std.proofs.lemmas.Option.{none-some}
 use Rattle.zc_num.specs.declared.limits.Limits.{Limits}
 use Rattle.zc_plain.specs.declared.plain_pool.PlainPool.{PlainPool}
 use Rattle.zc_plain.specs.declared.entry.Entry.{Entry}
+use Rattle.zc_plain.specs.declared.entry.Entry.TheVariants.{Seal}
 use Rattle.zc_plain.specs.History.{state_after, pool_after}
 use Rattle.zc_heart.specs.declared.changes.Sealed.{Sealed}
 use Rattle.zc_heart.proofs.ListLaws.{each_of, found_has}
@@ -16,7 +18,7 @@ use Rattle.zc_open.specs.declared.ack.Ack.{Ack}
 use Rattle.zc_open.specs.declared.ack.Waiting.{Waiting}
 use Rattle.zc_open.specs.Events.{waiting_of, without_waiting}
 use Rattle.zc_open.specs.Heard.{AreNumbered}
-use Rattle.zc_open.specs.Points.{Point, IsPoint, AreCovered, AreAcked, AreJobs}
+use Rattle.zc_open.specs.Points.{Point, IsSealedAt, IsPoint, AreCovered, AreAcked, AreJobs}
 
 -- ---- a point
 
@@ -24,9 +26,26 @@ use Rattle.zc_open.specs.Points.{Point, IsPoint, AreCovered, AreAcked, AreJobs}
 pub past_stays : (start : PlainPool) (history more : List Entry) (point : Point) → point.entries ≤ length history → pool_after start (history ++ more) point.entries ≡ pool_after start history point.entries
 past_stays start history more point within = ap (λ (front : List Entry). (state_after start front).pool) (take-append-le point.entries history more within)
 
-pub point_stays : (start : PlainPool) (history more : List Entry) (limits : Limits) (point : Point) → IsPoint start history limits point → IsPoint start (history ++ more) limits point
-point_stays start history more limits point is = record {
+-- an item stands where it stood, however the list goes on
+pub item_before : {X : Type 0} (front back : List X) (i : ℕ) (x : X) → slice_get front i ≡ Some x → slice_get (front ++ back) i ≡ Some x
+item_before [] back i x is = absurd (none-some x is)
+item_before (y ∷ front) back zero x is = is
+item_before (y ∷ front) back (suc i) x is = item_before front back i x is
+
+-- what sealed a group still seals it
+sealed_stays : (claim : ℕ) (history more : List Entry) (group entries : ℕ) → IsSealedAt claim history group entries → IsSealedAt claim (history ++ more) group entries
+sealed_stays claim history more group zero is = is
+sealed_stays claim history more group (suc entries) is = item_before history more entries (Seal group) is
+
+-- the group is sealed by the last of so many entries
+pub sealed_by : (claim : ℕ) (history : List Entry) (group n entries : ℕ) → entries ≡ n + 1 → slice_get history n ≡ Some (Seal group) → IsSealedAt claim history group entries
+sealed_by claim history group n zero next is = absurd (omega (arith, next))
+sealed_by claim history group n (suc entries) next is = subst (λ (k : ℕ). slice_get history k ≡ Some (Seal group)) (omega (arith, next)) is
+
+pub point_stays : (start : PlainPool) (claim : ℕ) (history more : List Entry) (limits : Limits) (point : Point) → IsPoint start claim history limits point → IsPoint start claim (history ++ more) limits point
+point_stays start claim history more limits point is = record {
   within = omega (arith, length-append history more, is.within);
+  sealed = sealed_stays claim history more point.group point.entries is.sealed;
   pool_is = is.pool_is ∙ sym (past_stays start history more point is.within);
   base_is = is.base_is;
 }
@@ -70,7 +89,7 @@ acked_later point next acks later acked = each_of (λ (ack : Ack). ack.ask ≤ p
 
 -- ---- jobs
 
--- groups that are numbered one behind another lie below the next
+-- groups that are numbered one after another lie below the next
 pub numbered_below : (from : ℕ) (jobs : List Sealed) (to : ℕ) → AreNumbered from jobs to → (from ≤ to) × AllByRecursion (λ (job : Sealed). job.group < to) jobs
 numbered_below from [] to same = (omega arith, tt)
 numbered_below from (job ∷ jobs) to numbered =
@@ -81,17 +100,18 @@ numbered_below from (job ∷ jobs) to numbered =
 abbrev pub StayCovered : (before behind : List Waiting) → Sealed → Type 0
 StayCovered before behind job = (point : Point) → AreCovered job.group point before → AreCovered job.group point behind
 
--- The jobs lead on as they did, behind more entries; others may wait, where whoever was covered at each job is still.
-pub jobs_stay : (start : PlainPool) (history more : List Entry) (limits : Limits) (before behind : List Waiting) (from : Point) (jobs : List Sealed) (to : Point)
-    → AllByRecursion (StayCovered before behind) jobs → AreJobs start history limits before from jobs to → AreJobs start (history ++ more) limits behind from jobs to
-jobs_stay start history more limits before behind from [] to stay are = are
-jobs_stay start history more limits before behind from (job ∷ jobs) to stay are = (
+-- The jobs lead on as they did, after more entries; others may wait, where whoever was covered at each job is still.
+pub jobs_stay : (start : PlainPool) (claim : ℕ) (history more : List Entry) (limits : Limits) (before behind : List Waiting) (from : Point) (jobs : List Sealed) (to : Point)
+    → AllByRecursion (StayCovered before behind) jobs → AreJobs start claim history limits before from jobs to → AreJobs start claim (history ++ more) limits behind from jobs to
+jobs_stay start claim history more limits before behind from [] to stay are = are
+jobs_stay start claim history more limits before behind from (job ∷ jobs) to stay are = (
   are.0,
   are.1,
-  point_stays start history more limits are.0 are.2,
-  stay.0 are.0 are.3,
-  are.4,
-  jobs_stay start history more limits before behind are.0 jobs to stay.1 are.5,
+  are.2,
+  point_stays start claim history more limits are.0 are.3,
+  stay.0 are.0 are.4,
+  are.5,
+  jobs_stay start claim history more limits before behind are.0 jobs to stay.1 are.6,
 )
 
 -- what holds of anything holds of each item
@@ -100,29 +120,29 @@ all_of P [] each_one = tt
 all_of P (x ∷ xs) each_one = (each_one x, all_of P xs each_one)
 
 -- the same sessions wait
-pub jobs_same : (start : PlainPool) (history more : List Entry) (limits : Limits) (waits : List Waiting) (from : Point) (jobs : List Sealed) (to : Point)
-    → AreJobs start history limits waits from jobs to → AreJobs start (history ++ more) limits waits from jobs to
-jobs_same start history more limits waits from jobs to are =
-    jobs_stay start history more limits waits waits from jobs to (all_of (StayCovered waits waits) jobs (λ job point covered. covered)) are
+pub jobs_same : (start : PlainPool) (claim : ℕ) (history more : List Entry) (limits : Limits) (waits : List Waiting) (from : Point) (jobs : List Sealed) (to : Point)
+    → AreJobs start claim history limits waits from jobs to → AreJobs start claim (history ++ more) limits waits from jobs to
+jobs_same start claim history more limits waits from jobs to are =
+    jobs_stay start claim history more limits waits waits from jobs to (all_of (StayCovered waits waits) jobs (λ job point covered. covered)) are
 
 -- one waits no more
-pub jobs_fewer : (start : PlainPool) (history more : List Entry) (limits : Limits) (waits : List Waiting) (session : ℕ) (from : Point) (jobs : List Sealed) (to : Point)
-    → AreJobs start history limits waits from jobs to → AreJobs start (history ++ more) limits (without_waiting session waits) from jobs to
-jobs_fewer start history more limits waits session from jobs to are =
-    jobs_stay start history more limits waits (without_waiting session waits) from jobs to
+pub jobs_fewer : (start : PlainPool) (claim : ℕ) (history more : List Entry) (limits : Limits) (waits : List Waiting) (session : ℕ) (from : Point) (jobs : List Sealed) (to : Point)
+    → AreJobs start claim history limits waits from jobs to → AreJobs start claim (history ++ more) limits (without_waiting session waits) from jobs to
+jobs_fewer start claim history more limits waits session from jobs to are =
+    jobs_stay start claim history more limits waits (without_waiting session waits) from jobs to
     (all_of (StayCovered waits (without_waiting session waits)) jobs (λ job point covered. covered_fewer job.group point waits session covered)) are
 
--- one more waits, for a group behind all of these
-pub jobs_more : (start : PlainPool) (history more : List Entry) (limits : Limits) (waits : List Waiting) (waiting : Waiting) (from : Point) (jobs : List Sealed) (to : Point) → AllByRecursion (λ (job : Sealed). job.group < waiting.group) jobs
-    → AreJobs start history limits waits from jobs to → AreJobs start (history ++ more) limits (waits ++ waiting ∷ []) from jobs to
-jobs_more start history more limits waits waiting from jobs to behind are =
-    jobs_stay start history more limits waits (waits ++ waiting ∷ []) from jobs to
+-- one more waits, for a group after all of these
+pub jobs_more : (start : PlainPool) (claim : ℕ) (history more : List Entry) (limits : Limits) (waits : List Waiting) (waiting : Waiting) (from : Point) (jobs : List Sealed) (to : Point) → AllByRecursion (λ (job : Sealed). job.group < waiting.group) jobs
+    → AreJobs start claim history limits waits from jobs to → AreJobs start claim (history ++ more) limits (waits ++ waiting ∷ []) from jobs to
+jobs_more start claim history more limits waits waiting from jobs to behind are =
+    jobs_stay start claim history more limits waits (waits ++ waiting ∷ []) from jobs to
     (each_of (λ (job : Sealed). job.group < waiting.group) (StayCovered waits (waits ++ waiting ∷ [])) jobs (λ job later point covered. covered_more job.group point waits waiting later covered) behind) are
 
 -- one more job, from the last point to the next
-pub jobs_then : (start : PlainPool) (history : List Entry) (limits : Limits) (waits : List Waiting) (from : Point) (jobs : List Sealed) (to : Point) (job : Sealed) (next : Point) → to.entries ≤ next.entries → IsPoint start history limits next
-    → AreCovered job.group next waits → IsJob to.base next.base job → AreJobs start history limits waits from jobs to → AreJobs start history limits waits from (jobs ++ job ∷ []) next
-jobs_then start history limits waits from [] to job next later point covered is same =
-    (next, subst (λ (before : Point). before.entries ≤ next.entries) (sym same) later, point, covered, subst (λ (before : Point). IsJob before.base next.base job) (sym same) is, refl)
-jobs_then start history limits waits from (first ∷ jobs) to job next later point covered is are =
-    (are.0, are.1, are.2, are.3, are.4, jobs_then start history limits waits are.0 jobs to job next later point covered is are.5)
+pub jobs_then : (start : PlainPool) (claim : ℕ) (history : List Entry) (limits : Limits) (waits : List Waiting) (from : Point) (jobs : List Sealed) (to : Point) (job : Sealed) (next : Point) → to.entries ≤ next.entries → next.group ≡ job.group → IsPoint start claim history limits next
+    → AreCovered job.group next waits → IsJob to.base next.base job → AreJobs start claim history limits waits from jobs to → AreJobs start claim history limits waits from (jobs ++ job ∷ []) next
+jobs_then start claim history limits waits from [] to job next later its point covered is same =
+    (next, subst (λ (before : Point). before.entries ≤ next.entries) (sym same) later, its, point, covered, subst (λ (before : Point). IsJob before.base next.base job) (sym same) is, refl)
+jobs_then start claim history limits waits from (first ∷ jobs) to job next later its point covered is are =
+    (are.0, are.1, are.2, are.3, are.4, are.5, jobs_then start claim history limits waits are.0 jobs to job next later its point covered is are.6)

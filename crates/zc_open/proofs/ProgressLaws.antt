@@ -12,7 +12,7 @@ use Rattle.zc_plain.specs.declared.entry.Entry.{Entry}
 use Rattle.zc_plain.specs.declared.entry.Entry.TheVariants.{Ask, Answer, Seal, Finish}
 use Rattle.zc_plain.specs.Charge.{held_by, with_seal, with_finish}
 use Rattle.zc_plain.specs.Answer.{answer, settled}
-use Rattle.zc_plain.specs.History.{PlainState, is_waiting, reply_of, tally_behind, next_number, step, state_after}
+use Rattle.zc_plain.specs.History.{PlainState, is_waiting, reply_of, tally_after, next_number, step, state_after}
 use Rattle.zc_plain.specs.Legal.{Due, Nothing, AnswerDue, SealDue, Wait, Unfinished, Progress, progress, at_start, wait_of, without_wait, first_of_unfinished, is_eio, MayEnd, MayAnswer, MayFollow, AreLegal}
 use Rattle.zc_plain.proofs.HistoryLaws.{waiting_changes_nothing, waiting_counts_nothing, entries_are_counted}
 use Rattle.zc_open.specs.Heard.{progress_after}
@@ -54,7 +54,7 @@ unfolding step
 pool_asked state session command reply after given = rw given refl
 
 pub tally_asked : (state : PlainState) (session : ℕ) (command : Command) (reply : Reply)
-    → (fold step state (Ask session command ∷ Answer session reply ∷ [])).tally ≡ tally_behind (next_number state) state.tally state.pool command
+    → (fold step state (Ask session command ∷ Answer session reply ∷ [])).tally ≡ tally_after (next_number state) state.tally state.pool command
 unfolding step
 tally_asked state session command reply = refl
 
@@ -102,37 +102,37 @@ tally_finished state group held = refl
 
 -- ---- a command that is answered at once
 
-behind_ask : (p : Progress) (session : ℕ) (command : Command) (reply : Reply) → reply_of p.state (Ask session command) ≡ Some reply
+after_ask : (p : Progress) (session : ℕ) (command : Command) (reply : Reply) → reply_of p.state (Ask session command) ≡ Some reply
     → progress p (Ask session command) ≡ record p { due = AnswerDue session reply; state = step p.state (Ask session command) }
 unfolding progress
-behind_ask p session command reply told = rw told refl
+after_ask p session command reply told = rw told refl
 
-behind_due : (p : Progress) (session : ℕ) (reply : Reply) → p.due ≡ AnswerDue session reply
+after_due : (p : Progress) (session : ℕ) (reply : Reply) → p.due ≡ AnswerDue session reply
     → progress p (Answer session reply) ≡ record p { due = Nothing; state = step p.state (Answer session reply) }
 unfolding progress
-behind_due p session reply due = rw due refl
+after_due p session reply due = rw due refl
 
 pub progress_asked : (p : Progress) (session : ℕ) (command : Command) (reply : Reply) → reply_of p.state (Ask session command) ≡ Some reply
     → fold progress p (Ask session command ∷ Answer session reply ∷ []) ≡ record p { due = Nothing; state = fold step p.state (Ask session command ∷ Answer session reply ∷ []) }
 progress_asked p session command reply told =
-    ap (λ (q : Progress). progress q (Answer session reply)) (behind_ask p session command reply told)
-    ∙ behind_due (record p { due = AnswerDue session reply; state = step p.state (Ask session command) }) session reply refl
+    ap (λ (q : Progress). progress q (Answer session reply)) (after_ask p session command reply told)
+    ∙ after_due (record p { due = AnswerDue session reply; state = step p.state (Ask session command) }) session reply refl
 
 pub legal_asked : (failed : Option ℕ) (p : Progress) (session : ℕ) (command : Command) (reply : Reply) → p.due ≡ Nothing → wait_of session p.waits ≡ None
     → reply_of p.state (Ask session command) ≡ Some reply → AreLegal failed p (Ask session command ∷ Answer session reply ∷ [])
 legal_asked failed p session command reply due free told =
     let q = progress p (Ask session command) in
-    let is : q.due ≡ AnswerDue session reply = ap (λ (q : Progress). q.due) (behind_ask p session command reply told) in
+    let is : q.due ≡ AnswerDue session reply = ap (λ (q : Progress). q.due) (after_ask p session command reply told) in
     let may : MayAnswer failed q (AnswerDue session reply) session reply = (refl, refl) in
     ((due, free), (subst (λ (due : Due). MayAnswer failed q due session reply) (sym is) may, tt))
 
 -- ---- a commit
 
-behind_commit : (p : Progress) (session : ℕ) → progress p (Ask session Commit) ≡ record p { due = SealDue session; state = step p.state (Ask session Commit) }
+after_commit : (p : Progress) (session : ℕ) → progress p (Ask session Commit) ≡ record p { due = SealDue session; state = step p.state (Ask session Commit) }
 unfolding progress reply_of
-behind_commit p session = refl
+after_commit p session = refl
 
-behind_seal : (p : Progress) (session group : ℕ) → p.due ≡ SealDue session
+after_seal : (p : Progress) (session group : ℕ) → p.due ≡ SealDue session
     → progress p (Seal group) ≡ record p {
       due = Nothing;
       waits = p.waits ++ record { session = session; group = group } ∷ [];
@@ -141,11 +141,11 @@ behind_seal : (p : Progress) (session group : ℕ) → p.due ≡ SealDue session
       state = step p.state (Seal group);
     }
 unfolding progress
-behind_seal p session group due = rw due refl
+after_seal p session group due = rw due refl
 
 -- the session waits, and the group is to be finished
-abbrev pub sealed_behind : Progress → (session group held : ℕ) → PlainState → Progress
-sealed_behind p session group held state = record p {
+abbrev pub sealed_after : Progress → (session group held : ℕ) → PlainState → Progress
+sealed_after p session group held state = record p {
   due = Nothing;
   waits = p.waits ++ record { session = session; group = group } ∷ [];
   unfinished = p.unfinished ++ record { group = group; held = held } ∷ [];
@@ -154,17 +154,17 @@ sealed_behind p session group held state = record p {
 }
 
 pub progress_sealed : (p : Progress) (session group : ℕ)
-    → fold progress p (Ask session Commit ∷ Seal group ∷ []) ≡ sealed_behind p session group (held_by p.state.pool) (fold step p.state (Ask session Commit ∷ Seal group ∷ []))
+    → fold progress p (Ask session Commit ∷ Seal group ∷ []) ≡ sealed_after p session group (held_by p.state.pool) (fold step p.state (Ask session Commit ∷ Seal group ∷ []))
 progress_sealed p session group =
-    ap (λ (q : Progress). progress q (Seal group)) (behind_commit p session)
-    ∙ behind_seal (record p { due = SealDue session; state = step p.state (Ask session Commit) }) session group refl
-    ∙ ap (λ (pool : PlainPool). sealed_behind p session group (held_by pool) (fold step p.state (Ask session Commit ∷ Seal group ∷ []))) (commit_pool p.state session)
+    ap (λ (q : Progress). progress q (Seal group)) (after_commit p session)
+    ∙ after_seal (record p { due = SealDue session; state = step p.state (Ask session Commit) }) session group refl
+    ∙ ap (λ (pool : PlainPool). sealed_after p session group (held_by pool) (fold step p.state (Ask session Commit ∷ Seal group ∷ []))) (commit_pool p.state session)
 
 pub legal_sealed : (failed : Option ℕ) (p : Progress) (session group : ℕ) → p.due ≡ Nothing → wait_of session p.waits ≡ None → group ≡ p.last + 1
     → AreLegal failed p (Ask session Commit ∷ Seal group ∷ [])
 legal_sealed failed p session group due free next =
     let may : MayFollow failed (record p { due = SealDue session; state = step p.state (Ask session Commit) }) (Seal group) = next in
-    ((due, free), (subst (λ (q : Progress). MayFollow failed q (Seal group)) (sym (behind_commit p session)) may, tt))
+    ((due, free), (subst (λ (q : Progress). MayFollow failed q (Seal group)) (sym (after_commit p session)) may, tt))
 
 -- ---- the end of a wait
 

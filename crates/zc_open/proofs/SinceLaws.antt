@@ -1,4 +1,4 @@
--- Whether files were changed since the last seal, behind one entry or two more.
+-- Whether files were changed since the last seal, after one entry or two more.
 use Rattle.std.proofs.Common.{◌≡◌, ℕ, Bool, true, false, ◌||◌, List, [], ◌∷◌, ◌++◌, fold, Some, None, refl, ap, ◌∙◌}
 use Rattle.std.proofs.lemmas.List.Sums.{fold-append}
 use Rattle.zc_command.specs.declared.command.Command.{Command}
@@ -11,13 +11,13 @@ use Rattle.zc_open.specs.Since.{Since, is_changed_by, since_entry, since_after}
 abbrev pub settled_since : Bool → Since
 settled_since changed = record { asked = None; changed = changed }
 
--- behind more entries
-abbrev since_behind : Since → List Entry → Since
-since_behind since more = fold since_entry since more
+-- after more entries
+abbrev since_later : Since → List Entry → Since
+since_later since more = fold since_entry since more
 
 -- a history in two parts
-since_append : (front back : List Entry) (since : Since) → since_after front ≡ since → since_after (front ++ back) ≡ since_behind since back
-since_append front back since is = fold-append since_entry (settled_since false) front back ∙ ap (λ (behind : Since). since_behind behind back) is
+since_append : (front back : List Entry) (since : Since) → since_after front ≡ since → since_after (front ++ back) ≡ since_later since back
+since_append front back since is = fold-append since_entry (settled_since false) front back ∙ ap (λ (behind : Since). since_later behind back) is
 
 -- a command was asked and answered
 pub since_asked : (history : List Entry) (changed : Bool) (session : ℕ) (command : Command) (reply : Reply) → since_after history ≡ settled_since changed

@@ -18,7 +18,7 @@ use Rattle.zc_open.specs.declared.asking.Asked.{Asked}
 use Rattle.zc_open.specs.declared.asking.Asked.TheVariants as asked
 use Rattle.zc_open.specs.Since.{is_changed_by}
 
--- a pool in memory behind an import: nothing was asked
+-- a pool in memory after an import: nothing was asked
 abbrev pub begun_pool : Core → (group calls : ℕ) → OpenPool
 begun_pool heart group calls =
     record { heart = heart; history = []; acks = []; jobs = []; waits = []; changed = false; group = group; calls = calls; failed = None }
@@ -87,7 +87,7 @@ Settles old new session (Some reply) = (waiting : Waiting) × (waiting_of sessio
 Settles old new session None =
     (waiting : Waiting) × (waiting_of session old.waits ≡ Some waiting) × (old.failed ≡ None) × (old.group < waiting.group) × (new ≡ old)
 
--- the first job, and those behind it
+-- the first job, and those after it
 pub record HasJob (pool : OpenPool) (job : Sealed) (others : List Sealed) : Type 0 where
   pub jobs_are : pool.jobs ≡ job ∷ others
 
@@ -124,5 +124,5 @@ pub record Finishes (old new : OpenPool) (made : ℕ) (done : GroupDone) : Type 
   }
 
 -- so many calls were made for a job, and the last of them failed
-abbrev pub failed_behind : OpenPool → (made : ℕ) → OpenPool
-failed_behind old made = record old { calls = old.calls + made; failed = Some (old.calls + made) }
+abbrev pub failed_after : OpenPool → (made : ℕ) → OpenPool
+failed_after old made = record old { calls = old.calls + made; failed = Some (old.calls + made) }

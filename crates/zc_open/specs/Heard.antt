@@ -6,7 +6,7 @@ use Rattle.zc_command.specs.declared.command.Command.TheVariants.{Commit}
 use Rattle.zc_command.specs.Names.{Each}
 use Rattle.zc_plain.specs.declared.plain_pool.PlainPool.{PlainPool}
 use Rattle.zc_plain.specs.declared.entry.Entry.{Entry}
-use Rattle.zc_plain.specs.declared.entry.Entry.TheVariants.{Ask}
+use Rattle.zc_plain.specs.declared.entry.Entry.TheVariants.{Ask, Seal}
 use Rattle.zc_plain.specs.History.{MeetsConditions, begun}
 use Rattle.zc_plain.specs.IsPlain.{IsState}
 use Rattle.zc_plain.specs.Promises.{HaveFewPointers}
@@ -26,7 +26,7 @@ pub record IsStart (limits : Limits) (start : PlainPool) : Type 0 where
   pub named : AreNamed start
   pub few_pointers : HaveFewPointers start
 
--- a pool behind all entries of its history
+-- a pool after all entries of its history
 abbrev pub progress_after : PlainPool → (claim : ℕ) → List Entry → Progress
 progress_after start claim history = fold progress (at_start start claim) history
 
@@ -37,9 +37,11 @@ wait_of waiting = record { session = waiting.session; group = waiting.group }
 abbrev pub unfinished_of : Sealed → Unfinished
 unfinished_of job = record { group = job.group; held = job.held }
 
--- the entry with the number is the commit that the session waits for, and its group was sealed
+-- the entry with the number is the commit that the session waits for, and the one after it seals its group
 abbrev pub IsAskedBy : List Entry → (group : ℕ) → Waiting → Type 0
-IsAskedBy history group waiting = (1 ≤ waiting.ask) × (waiting.group < group) × (slice_get history (waiting.ask - 1) ≡ Some (Ask waiting.session Commit))
+IsAskedBy history group waiting =
+    (1 ≤ waiting.ask) × (waiting.group < group) × (slice_get history (waiting.ask - 1) ≡ Some (Ask waiting.session Commit))
+    × (slice_get history waiting.ask ≡ Some (Seal waiting.group))
 
 -- the jobs are numbered from the one group on up to the other, which is the next
 abbrev pub AreNumbered : (from : ℕ) → List Sealed → (to : ℕ) → Type 0
@@ -51,7 +53,7 @@ abbrev pub calls_left : Option ℕ → ℕ
 calls_left None = 2 ^ 64
 calls_left (Some call) = 0
 
--- What is kept in memory is what the history says, and the history is legal: of a pool that began so, behind this claim group.
+-- What is kept in memory is what the history says, and the history is legal: of a pool that began so, after this claim group.
 pub record IsHeard (start : PlainPool) (claim : ℕ) (pool : OpenPool) : Type 0 where
   pub conditions : Each MeetsConditions pool.history
   pub legal : IsLegal start claim pool.failed pool.history

@@ -1,9 +1,10 @@
 -- From which pool of the history the jobs lead to which: from that of the root to what the files are now.
-use Rattle.std.specs.Prelude.{◌≡◌, ℕ, ◌≤◌, List, [], ◌∷◌, length, count_by}
+use Rattle.std.specs.Prelude.{◌≡◌, ℕ, zero, suc, ◌≤◌, List, [], ◌∷◌, length, count_by, slice_get, Some}
 use Rattle.std.specs.List.{AllByRecursion}
 use Rattle.zc_num.specs.declared.limits.Limits.{Limits}
 use Rattle.zc_plain.specs.declared.plain_pool.PlainPool.{PlainPool}
 use Rattle.zc_plain.specs.declared.entry.Entry.{Entry}
+use Rattle.zc_plain.specs.declared.entry.Entry.TheVariants.{Seal}
 use Rattle.zc_plain.specs.History.{pool_after}
 use Rattle.zc_heart.specs.declared.changes.Sealed.{Sealed}
 use Rattle.zc_heart.specs.declared.pool_core.WaitingGroup.{WaitingGroup}
@@ -14,13 +15,21 @@ use Rattle.zc_open.specs.declared.ack.Ack.{Ack}
 use Rattle.zc_open.specs.declared.ack.Waiting.{Waiting}
 use Rattle.zc_open.specs.declared.open_pool.OpenPool.{OpenPool}
 
--- a pool of the history, with the log areas of its datasets: the one behind so many entries
+-- a pool of the history, with the log areas of its datasets: the one after so many entries, which a group holds
 pub record Point : Type 0 where
   pub entries : ℕ
+  pub group : ℕ
   pub base : Base
 
-pub record IsPoint (start : PlainPool) (history : List Entry) (limits : Limits) (point : Point) : Type 0 where
+-- the group is sealed by the last of so many first entries; the claim group is, before any
+abbrev pub IsSealedAt : (claim : ℕ) → List Entry → (group entries : ℕ) → Type 0
+IsSealedAt claim history group zero = group ≡ claim
+IsSealedAt claim history group (suc entries) = slice_get history entries ≡ Some (Seal group)
+
+-- the point stands at the seal of its group, or at the start
+pub record IsPoint (start : PlainPool) (claim : ℕ) (history : List Entry) (limits : Limits) (point : Point) : Type 0 where
   pub within : point.entries ≤ length history
+  pub sealed : IsSealedAt claim history point.group point.entries
   pub pool_is : point.base.pool ≡ pool_after start history point.entries
   pub base_is : IsBase limits point.base
 
@@ -32,12 +41,12 @@ AreCovered group point waits = AllByRecursion (λ (waiting : Waiting). waiting.g
 abbrev pub AreAcked : Point → List Ack → Type 0
 AreAcked point acks = AllByRecursion (λ (ack : Ack). ack.ask ≤ point.entries) acks
 
--- the jobs in order, each from the pool before it to a later one of the history
-abbrev pub AreJobs : PlainPool → List Entry → Limits → List Waiting → Point → List Sealed → Point → Type 0
-AreJobs start history limits waits from [] to = from ≡ to
-AreJobs start history limits waits from (job ∷ jobs) to =
-    (next : Point) × (from.entries ≤ next.entries) × IsPoint start history limits next × AreCovered job.group next waits × IsJob from.base next.base job
-    × AreJobs start history limits waits next jobs to
+-- the jobs in order, each from the pool before it to the one at its own seal
+abbrev pub AreJobs : PlainPool → (claim : ℕ) → List Entry → Limits → List Waiting → Point → List Sealed → Point → Type 0
+AreJobs start claim history limits waits from [] to = from ≡ to
+AreJobs start claim history limits waits from (job ∷ jobs) to =
+    (next : Point) × (from.entries ≤ next.entries) × (next.group ≡ job.group) × IsPoint start claim history limits next × AreCovered job.group next waits × IsJob from.base next.base job
+    × AreJobs start claim history limits waits next jobs to
 
 -- the group waits in the heart as the job says
 abbrev pub IsJobOf : WaitingGroup → Sealed → Type 0
@@ -50,13 +59,14 @@ AreJobsOf (waits ∷ waiting) [] = ⊥
 AreJobsOf (waits ∷ waiting) (job ∷ jobs) = IsJobOf waits job × AreJobsOf waiting jobs
 
 -- The jobs lead from the pool at the root's point to the last point, and the open group from there to what the files are now.
-pub record IsLined (start : PlainPool) (limits : Limits) (root : Point) (pool : OpenPool) : Type 0 where
+pub record IsLined (start : PlainPool) (claim : ℕ) (limits : Limits) (root : Point) (pool : OpenPool) : Type 0 where
   pub limits_are : pool.heart.limits ≡ limits
-  pub at_root : IsPoint start pool.history limits root
+  pub at_root : IsPoint start claim pool.history limits root
+  pub root_group : root.group ≡ pool.group
   pub acked : AreAcked root pool.acks
   pub covered : AreCovered pool.group root pool.waits
   pub to : Point
-  pub jobs : AreJobs start pool.history limits pool.waits root pool.jobs to
-  pub last : IsPoint start pool.history limits to
+  pub jobs : AreJobs start claim pool.history limits pool.waits root pool.jobs to
+  pub last : IsPoint start claim pool.history limits to
   pub leads : Leads to.base pool.heart
   pub waiting : AreJobsOf pool.heart.waiting pool.jobs

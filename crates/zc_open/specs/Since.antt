@@ -45,6 +45,6 @@ since_entry since (Answer session reply) = record { asked = None; changed = sinc
 since_entry since (Seal group) = record { asked = None; changed = false }
 since_entry since (Finish group held) = since
 
--- behind all entries of the history
+-- after all entries of the history
 abbrev pub since_after : List Entry → Since
 since_after history = fold since_entry (record { asked = None; changed = false }) history

@@ -20,7 +20,7 @@ use crate::kinds::{is_changed, is_waiting};
 use std::alloc::Global;
 use zc_command::{Command, Reply};
 use zc_heart::Sealed;
-use zc_num::{Listed, NoMemory};
+use zc_num::{Listed, NoMemory, Queue};
 use zc_plain::Entry;
 
 /// What an ask came to.
@@ -153,7 +153,7 @@ fn push_commit(pool: &mut OpenPool, alloc: Global, waiting: Waiting) -> Result<(
 fn push_wait(
     alloc: Global,
     waits: &mut Listed<Waiting>,
-    jobs: &mut Listed<Sealed>,
+    jobs: &mut Queue<Sealed>,
     waiting: Waiting,
 ) -> Result<(), NoMemory>
     ensures waits { OnOk result (waits.new ≡ waits.old ++ waiting ∷ []) }

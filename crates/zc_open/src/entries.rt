@@ -4,11 +4,11 @@ ghost use Rattle.std.specs.Prelude.{◌≡◌, ◌+◌, ◌^◌, ◌<◌, [], �
 use zc_num::{Listed, NoMemory};
 use zc_plain::Entry;
 
-/// Adds the two behind the last.
+/// Adds the two after the last.
 ///
 /// # Errors
 /// Want of memory; nothing has changed.
-#[tactic(auto, using(crate::proofs::EntryLaws::two_behind, crate::proofs::EntryLaws::front_of_more))]
+#[tactic(auto, using(crate::proofs::EntryLaws::two_after, crate::proofs::EntryLaws::front_of_more))]
 pub fn push_two(history: &mut Listed<Entry>, first: Entry, second: Entry) -> Result<(), NoMemory>
     ensures ok { OnOk result (history.new ≡ history.old ++ first ∷ second ∷ []) }
     ensures err { OnErr result (history.new ≡ history.old) }

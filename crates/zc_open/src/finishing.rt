@@ -1,7 +1,7 @@
 // How the first group that waits is taken in once it is written.
 ghost use Rattle.std.specs.Prelude.{◌≡◌, ◌<◌, ◌≤◌, ◌+◌, ◌^◌, OnOk, OnErr, length};
 ghost use Rattle.zc_heart.specs.Meaning.{MayAbsorb};
-ghost use Rattle.zc_open.specs.Events.{Notes, forgotten, FinishesNoted, failed_behind};
+ghost use Rattle.zc_open.specs.Events.{Notes, forgotten, FinishesNoted, failed_after};
 
 use crate::OpenPool;
 use zc_heart::GroupDone;
@@ -9,7 +9,7 @@ use zc_num::NoMemory;
 use zc_plain::Entry;
 
 impl OpenPool {
-    /// Writes the finish of the first job into the history, before the job is done, so that nothing behind it takes memory.
+    /// Writes the finish of the first job into the history, before the job is done, so that nothing after it takes memory.
     ///
     /// # Errors
     /// Want of memory; nothing has changed.
@@ -37,7 +37,7 @@ impl OpenPool {
     /// So many calls were made for the first job, and the last of them failed.
     pub fn fail(&mut self, made: u64)
         requires width { self.old.calls + made < 2 ^ 128 }
-        ensures { self.new ≡ failed_behind self.old made }
+        ensures { self.new ≡ failed_after self.old made }
     {
         self.calls += u128::from(made);
         self.failed = Some(self.calls);

@@ -5,17 +5,17 @@ ghost use Rattle.zc_open.specs.Events.{begun_pool};
 use crate::ack::{Ack, Waiting};
 use std::alloc::Global;
 use zc_heart::{Heart, Sealed};
-use zc_num::Listed;
+use zc_num::{Listed, Queue};
 use zc_plain::Entry;
 
 /// A pool in memory.
 ///
 /// Each call's clause says exactly what it adds, or that nothing has changed where memory is wanting: `Asks`, `AsksCommit`, `Settles`,
-/// `Notes`, `FinishesNoted`, `failed_behind` (specs/Events.antt). What stays true over any run of calls is proved by the public laws in
+/// `Notes`, `FinishesNoted`, `failed_after` (specs/Events.antt). What stays true over any run of calls is proved by the public laws in
 /// proofs/, one for each kind of call:
 ///
 /// - What is kept in memory is what the history says, and the history is legal (`IsHeard`, HeardLaws). So each command is answered as
-///   plain files answer it, a commit is answered Done only behind the finish of its group, a group is finished only once and behind its
+///   plain files answer it, a commit is answered Done only after the finish of its group, a group is finished only once and after its
 ///   seal, and `EIO call N` is told only where the N-th call failed.
 /// - The pool of the root stands in the history, each job leads from there to the next such pool, and the open group to what the files
 ///   are now; each commit that was acknowledged was asked before the root's (`IsLined`, PointLaws).
@@ -32,7 +32,7 @@ pub struct OpenPool {
     /// The commits that were answered Done, in order.
     pub acks: Listed<Ack>,
     /// The sealed groups that aren't written, in order.
-    pub jobs: Listed<Sealed>,
+    pub jobs: Queue<Sealed>,
     /// The sessions that wait, in the order in which they asked.
     pub waits: Listed<Waiting>,
     /// Whether a change was answered without refusal since the last seal.
@@ -46,7 +46,7 @@ pub struct OpenPool {
 }
 
 impl OpenPool {
-    /// A pool behind an import that made so many calls, whose claim group is this one.
+    /// A pool after an import that made so many calls, whose claim group is this one.
     pub fn begin(alloc: Global, heart: Heart, group: u64, calls: u128) -> Self
         ensures { result ≡ begun_pool heart group calls }
     {
@@ -54,7 +54,7 @@ impl OpenPool {
             heart,
             history: Listed::new(alloc),
             acks: Listed::new(alloc),
-            jobs: Listed::new(alloc),
+            jobs: Queue::new(alloc),
             waits: Listed::new(alloc),
             changed: false,
             group,

@@ -55,7 +55,7 @@ fn wait_of(waits: &[Waiting], session: u32) -> Option<&Waiting>
 }
 
 // The place of its wait among them.
-fn place_of(waits: &Listed<Waiting>, session: u32) -> Option<usize>
+fn wait_index(waits: &Listed<Waiting>, session: u32) -> Option<usize>
     ensures { result ≡ position (λ waiting. waiting.session == session) waits.now }
 {
     waits
@@ -68,7 +68,7 @@ fn place_of(waits: &Listed<Waiting>, session: u32) -> Option<usize>
 fn leave(waits: &mut Listed<Waiting>, session: u32)
     ensures { waits.new ≡ without_waiting session waits.old }
 {
-    while let Some(place) = place_of(waits, session) {
+    while let Some(place) = wait_index(waits, session) {
         waits.remove(place);
     }
 }

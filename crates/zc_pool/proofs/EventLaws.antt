@@ -17,7 +17,7 @@ use Rattle.zc_group.specs.Kept.{HasSize, HasPlaces}
 use Rattle.zc_open.specs.declared.open_pool.OpenPool.{OpenPool}
 use Rattle.zc_open.specs.declared.asking.Asked.{Asked}
 use Rattle.zc_open.specs.declared.asking.Asked.TheVariants as asked
-use Rattle.zc_open.specs.Events.{IsAsBefore, IsAsked, Settles, Notes, forgotten, failed_behind}
+use Rattle.zc_open.specs.Events.{IsAsBefore, IsAsked, Settles, Notes, forgotten, failed_after}
 use Rattle.zc_open.specs.Acked.{AreAcks}
 use Rattle.zc_open.proofs.AckLaws.{acks_before, acks_asks, acks_commit, acks_ends, acks_finishes, acks_fails}
 use Rattle.zc_open.proofs.HeardLaws.{forgotten_noted}
@@ -26,7 +26,7 @@ use Rattle.zc_pool.specs.declared.event.Event.{Event}
 use Rattle.zc_pool.specs.declared.event.Event.TheVariants as kind
 use Rattle.zc_pool.specs.declared.event.Progress.{Progress}
 use Rattle.zc_pool.specs.declared.event.Progress.TheVariants as progress
-use Rattle.zc_pool.specs.Answers.{MayAsk, AnswersEvent}
+use Rattle.zc_pool.specs.EventAnswers.{MayAsk, AnswersEvent}
 use Rattle.zc_pool.specs.Running.{IsPool}
 use Rattle.zc_pool.specs.Carried.{IsLeftAlone, IsSuspended, progress_of_ask, progress_of_settle}
 use Rattle.zc_pool.specs.declared.events.Ran.TheVariants.{Whole, Stopped}
@@ -122,8 +122,8 @@ pub pool_places : (shape : Shape) (root : Root) (kept : OpenPool) → IsPool sha
 pool_places shape root kept (run, point, is) = is.places
 
 -- the finish is forgotten, and the call that failed is kept
-pub failed_from : (old noted new : OpenPool) (made : ℕ) → Notes old noted → new ≡ failed_behind (forgotten noted) made → new ≡ failed_behind old made
-failed_from old noted new made notes fails = fails ∙ ap (λ (kept : OpenPool). failed_behind kept made) (forgotten_noted old noted notes)
+pub failed_from : (old noted new : OpenPool) (made : ℕ) → Notes old noted → new ≡ failed_after (forgotten noted) made → new ≡ failed_after old made
+failed_from old noted new made notes fails = fails ∙ ap (λ (kept : OpenPool). failed_after kept made) (forgotten_noted old noted notes)
 
 -- ---- what is told of the disks
 
@@ -154,7 +154,7 @@ acks_answered old new kind.Step progress.NotYet may steps acks = absurd steps
 acks_answered old new kind.Step progress.Stepped may (none, made, done, finishes) acks = acks_finishes old new made done acks finishes
 acks_answered old new kind.Step progress.Idle may (none, empty, same) acks = acks_same old new same acks
 acks_answered old new kind.Step (progress.Suspended call) may (inl before) acks = acks_same old new before.1 acks
-acks_answered old new kind.Step (progress.Suspended call) may (inr (none, made, number, fails)) acks = acks_same (failed_behind old made) new fails (acks_fails old made acks)
+acks_answered old new kind.Step (progress.Suspended call) may (inr (none, made, number, fails)) acks = acks_same (failed_after old made) new fails (acks_fails old made acks)
 acks_answered old new (kind.Settle session) (progress.Answered reply) may (waiting, found, ends) acks = acks_ends old new session waiting reply old.failed acks found ends
 acks_answered old new (kind.Settle session) progress.Waiting may settles acks = absurd settles
 acks_answered old new (kind.Settle session) progress.NotYet may (waiting, found, none, later, same) acks = acks_same old new same acks

@@ -1,4 +1,4 @@
--- The plain pool that is found in a tree: no byte is left behind a file's size, and the tree holds the pool.
+-- The plain pool that is found in a tree: no byte is left after a file's size, and the tree holds the pool.
 use Rattle.std.proofs.Common.{◌≡◌, ◌≢◌, ◌∙◌, ℕ, zero, suc, ◌+◌, ◌-◌, ◌*◌, ◌/◌, ◌%◌, ◌<◌, ◌≤◌, Bool, cond, ◌&&◌, ◌||◌, ◌==◌, List, [], ◌∷◌, ◌++◌, map, length, drop, get_or, Option, Some, None, refl, sym, ap, subst, ⊎_elim, arith}
 use Rattle.std.specs.Prelude.{flat_map, sum_by}
 use Rattle.std.specs.List.{AllByRecursion, list_any, range_with_len}
@@ -54,19 +54,19 @@ pub any_same : (blocks : List FoundBlock) (device place : ℕ) → list_any (λ 
 any_same [] device place = refl
 any_same (block ∷ blocks) device place = ap (λ (rest : Bool). is_block_at device place block || rest) (any_same blocks device place)
 
--- ---- no byte behind a size
+-- ---- no byte after a size
 
 zero_at : (bytes : List ℕ) (k : ℕ) → AllByRecursion (λ (byte : ℕ). byte ≡ 0) bytes → get_or bytes k 0 ≡ 0
 zero_at [] k zeros = refl
 zero_at (byte ∷ bytes) zero zeros = zeros.0
 zero_at (byte ∷ bytes) (suc k) zeros = zero_at bytes k zeros.1
 
-zero_behind : (bytes : List ℕ) (count k : ℕ) → count ≤ k → AllByRecursion (λ (byte : ℕ). byte ≡ 0) (drop count bytes) → get_or bytes k 0 ≡ 0
-zero_behind bytes count k past zeros =
+zero_after : (bytes : List ℕ) (count k : ℕ) → count ≤ k → AllByRecursion (λ (byte : ℕ). byte ≡ 0) (drop count bytes) → get_or bytes k 0 ≡ 0
+zero_after bytes count k past zeros =
     let at : k ≡ count + (k - count) = omega arith in
     ap (λ (n : ℕ). get_or bytes n 0) at ∙ sym (get_or-drop count bytes (k - count) 0) ∙ zero_at (drop count bytes) (k - count) zeros
 
--- the last block of a file is the one in which a byte behind its size may lie
+-- the last block of a file is the one in which a byte after its size may lie
 last_is : (size k r : ℕ) → k < blocks_of_size size → size ≤ k * 4096 + r → r < 4096 → last_block size ≡ k
 last_is size k r within past low = omega (arith, within, past, low)
 
@@ -81,7 +81,7 @@ module _ (blocks : List HeartBlock) (file : File) (zeros : HasZeroTail (bytes_at
       let last : last_block file.size ≡ k = last_is file.size k r within past low in
       let pointer : last_pointer file ≡ Some ptr =
       ap (λ (b : Bool). cond b None (value_at (last_block file.size) file.slots)) (ne_eqb file.size 0 (some_bytes file.size k within)) ∙ ap (λ (n : ℕ). value_at n file.slots) last ∙ there in
-      zero_behind (bytes_at blocks ptr.device ptr.place) (file.size - 4096 * last_block file.size) r (omega (arith, last, past)) (zeros ptr pointer)
+      zero_after (bytes_at blocks ptr.device ptr.place) (file.size - 4096 * last_block file.size) r (omega (arith, last, past)) (zeros ptr pointer)
 
   block_zero : (k r : ℕ) → file.size ≤ k * 4096 + r → r < 4096 → get_or (bytes_of_block (block_at k (found_file blocks file).blocks)) r 0 ≡ 0
   block_zero k r past low =

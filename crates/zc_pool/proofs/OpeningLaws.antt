@@ -6,7 +6,7 @@ use Rattle.zc_num.specs.declared.limits.Limits.{Limits}
 use Rattle.zc_num.proofs.Each.{each_same}
 use Rattle.zc_blkptr.specs.declared.ptr.Ptr.{Ptr}
 use Rattle.zc_tape.specs.Tape.{Image, Shape, Tape, Made as MadeCall}
-use Rattle.zc_tape.specs.Crash.{AtRest, reads}
+use Rattle.zc_tape.specs.Crash.{May, AtRest, reads}
 use Rattle.zc_tree.specs.declared.tree.File.{File}
 use Rattle.zc_tree.specs.declared.tree.Dataset.{Dataset}
 use Rattle.zc_tree.specs.declared.tree.Tree.{Tree}
@@ -19,7 +19,7 @@ use Rattle.zc_layout.specs.Layout.{owns}
 use Rattle.zc_state.specs.State.{State, IsState, StandsFor, block_places, put_of}
 use Rattle.zc_state.proofs.Pointers.{parts_have_ptrs}
 use Rattle.zc_state.proofs.BlockLaws.{pointers_owned}
-use Rattle.zc_next.specs.Next.{gathered, later_tree}
+use Rattle.zc_next.specs.Next.{blocks_at, later_tree}
 use Rattle.zc_next.proofs.BlockLists.{holds_there, places_of_gathered, bytes_of_gathered}
 use Rattle.zc_plain.specs.declared.plain_pool.PlainBlock.TheVariants.{Made}
 use Rattle.zc_plain.specs.declared.plain_pool.PlainPool.{PlainPool}
@@ -38,16 +38,19 @@ use Rattle.zc_group.specs.Kept.{HasSize, HasPlaces}
 use Rattle.zc_group.specs.Committed.{LeavesEither}
 use Rattle.zc_group.specs.Imported.{claimed_state, IsTaken, IsTakenUp}
 use Rattle.zc_group.specs.Imported as group
-use Rattle.zc_lane.specs.Held.{plain_block, plain_file, plain_dataset, found_in, files_under}
+use Rattle.zc_lane.specs.Found.{plain_block, plain_file, plain_dataset, found_in, files_under}
 use Rattle.zc_lane.specs.Jobs.{IsRooted}
 use Rattle.zc_open.specs.declared.open_pool.OpenPool.{OpenPool}
+use Rattle.zc_open.specs.Acked.{AreAcks}
 use Rattle.zc_open.specs.Events.{begun_pool}
 use Rattle.zc_open.specs.Points.{Point}
+use Rattle.zc_open.proofs.AckLaws.{acks_begun}
 use Rattle.zc_pool.specs.Importing.{heart_block, IsHeld}
-use Rattle.zc_pool.specs.Opened.{run_from, IsNew, IsOpenedFrom, IsBeforeWrites}
+use Rattle.zc_pool.specs.Opened.{run_from, IsNew, IsOpenedFrom, IsBeforeClaim}
 use Rattle.zc_pool.specs.Running.{Run, IsKept, IsPool, first_failed_from, IsSurvivor, Survives, IsOnDisks}
 use Rattle.zc_pool.proofs.FoundPool.{bytes_are}
 use Rattle.zc_pool.proofs.StartLaws.{core_holds, kept_begins}
+use Rattle.zc_pool.proofs.SurvivesLaws.{each_prefix}
 
 -- what holds of the items of two lists in a row holds of those of each
 all_front : {X : Type 0} (P : X → Type 0) (xs ys : List X) → AllByRecursion P (xs ++ ys) → AllByRecursion P xs
@@ -122,9 +125,9 @@ module _ (shape : Shape) (s : State) (is : IsState shape s) where
   claimed_bytes : AllByRecursion (HasSameBytes (claimed_state shape s).blocks s.blocks) reach
   claimed_bytes =
       let there = block_places shape.devices shape.places reach in
-      each_weaker (λ (ptr : Ptr). owns (map put_of (gathered there s.blocks)) ptr.device ptr.place ≡ true) (HasSameBytes (claimed_state shape s).blocks s.blocks)
+      each_weaker (λ (ptr : Ptr). owns (map put_of (blocks_at there s.blocks)) ptr.device ptr.place ≡ true) (HasSameBytes (claimed_state shape s).blocks s.blocks)
       (λ ptr owned. bytes_of_gathered there s.blocks ptr.device ptr.place owned) reach
-      (pointers_owned shape.devices shape.places reach (gathered there s.blocks) (parts_have_ptrs shape.devices shape.places s.body.group s.body.next_dataset s.parts is.parts) (places_of_gathered there s.blocks))
+      (pointers_owned shape.devices shape.places reach (blocks_at there s.blocks) (parts_have_ptrs shape.devices shape.places s.body.group s.body.next_dataset s.parts is.parts) (places_of_gathered there s.blocks))
 
   pub claimed_found : (limits : Limits) → found_in limits (claimed_state shape s) ≡ found_in limits s
   claimed_found limits =
@@ -146,15 +149,12 @@ survivor : (shape : Shape) (limits : Limits) (s : State) (start : PlainPool) (ca
 survivor shape limits s start calls image stands same = record {
   state = s;
   stands = stands;
-  entries = 0;
-  within = omega arith;
-  holds = λ name. ap (files_under name) same;
-  acknowledged = tt;
+  each_name = each_prefix (found_in limits s) start [] [] calls 0 (omega arith) (λ name. ap (files_under name) same) tt;
 }
 
 -- each moment leaves the files that stood there
 pub begun_survives : (shape : Shape) (t u : Tape) (s : State) (limits : Limits) → StandsFor shape (reads t) s → LeavesEither shape s (claimed_state shape s) t u
-    → Survives shape u (length t.calls) limits (found_in limits s) [] []
+    → Survives May shape u (length t.calls) limits (found_in limits s) [] []
 begun_survives shape t u s limits stands leaves = λ i image from to crash.
     ⊎_elim
     (λ (old : StandsFor shape image s). survivor shape limits s (found_in limits s) (i - length t.calls) image old refl)
@@ -174,6 +174,10 @@ held_new root blocks calls kept held =
     let new : IsNew (begun_pool kept.heart root.tree.group calls) = record { history = refl; acks = refl; jobs = refl; waits = refl; changed = λ yes. true≢false (sym yes); failed = refl } in
     subst IsNew (sym held.begins) new
 
+-- and nothing acknowledged
+held_acks : (root : Root) (blocks : List FoundBlock) (calls : ℕ) (kept : OpenPool) → IsHeld root blocks calls kept → AreAcks kept
+held_acks root blocks calls kept held = subst AreAcks (sym held.begins) (acks_begun kept.heart root.tree.group calls)
+
 -- what is known of a root that was taken up, whatever the disks tell
 pub record IsRootOf (shape : Shape) (root : Root) (blocks : List FoundBlock) : Type 0 where
   pub taken : IsTaken root.limits root.tree blocks
@@ -184,7 +188,7 @@ pub record IsRootOf (shape : Shape) (root : Root) (blocks : List FoundBlock) : T
 module _ (shape : Shape) (root : Root) (blocks : List FoundBlock) (calls : ℕ) (kept : OpenPool) (is : IsRootOf shape root blocks) (held : IsHeld root blocks calls kept) where
   -- the point of the history at which it begins
   abbrev point : Point
-  point = record { entries = 0; base = base_of kept.heart }
+  point = record { entries = 0; group = root.tree.group; base = base_of kept.heart }
 
   abbrev begun : OpenPool
   begun = begun_pool kept.heart root.tree.group calls
@@ -240,6 +244,9 @@ module _ (shape : Shape) (root : Root) (blocks : List FoundBlock) (calls : ℕ) 
 pub imported_new : (imported : Imported) (kept : OpenPool) → IsHeld imported.root imported.blocks imported.calls kept → IsNew kept
 imported_new imported kept held = held_new imported.root imported.blocks imported.calls kept held
 
+pub imported_acks : (imported : Imported) (kept : OpenPool) → IsHeld imported.root imported.blocks imported.calls kept → AreAcks kept
+imported_acks imported kept held = held_acks imported.root imported.blocks imported.calls kept held
+
 module _ (shape : Shape) (imported : Imported) (root : Root) (kept : OpenPool) (same : root ≡ imported.root) (is : IsRootOf shape imported.root imported.blocks)
     (held : IsHeld imported.root imported.blocks imported.calls kept) where
   -- the pool that it gives
@@ -258,7 +265,7 @@ module _ (shape : Shape) (imported : Imported) (root : Root) (kept : OpenPool) (
 -- ---- a fault
 
 -- what comes before anything was written, came so in the group's import too
-pub before_writes : (fault : ImportFault) → IsBeforeWrites fault → group.IsBeforeWrites fault
+pub before_writes : (fault : ImportFault) → IsBeforeClaim fault → group.IsBeforeWrites fault
 before_writes NoMemory before = tt
 before_writes NoPool before = tt
 before_writes DiskFault before = before

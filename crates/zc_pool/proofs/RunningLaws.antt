@@ -2,6 +2,7 @@
 use Rattle.std.proofs.Common.{◌≡◌, ◌∙◌, ℕ, ◌+◌, ◌-◌, ◌^◌, ◌<◌, ◌≤◌, Bool, List, [], ◌∷◌, ◌++◌, length, drop, slice_get, Option, Some, None, IsTrue, refl, sym, ap, subst, subst₂, arith, append-nil, lit<}
 use Rattle.zc_num.specs.declared.limits.Limits.{Limits}
 use Rattle.zc_tape.specs.Tape.{Shape, Tape}
+use Rattle.zc_tape.specs.Crash.{May}
 use Rattle.zc_tape.proofs.Extends.{Extends}
 use Rattle.zc_plan.specs.Counted.{AllMade, AllButLast}
 use Rattle.zc_state.specs.State.{State}
@@ -24,7 +25,7 @@ use Rattle.zc_open.specs.declared.ack.Waiting.{Waiting}
 use Rattle.zc_open.specs.declared.open_pool.OpenPool.{OpenPool}
 use Rattle.zc_open.specs.declared.asking.Asked.{Asked}
 use Rattle.zc_open.specs.declared.asking.Asked.TheVariants as asked
-use Rattle.zc_open.specs.Events.{waiting_of, IsAsBefore, Asks, AsksCommit, IsAsked, ack_of, EndsWait, Settles, HasJob, Finishes, failed_behind}
+use Rattle.zc_open.specs.Events.{waiting_of, IsAsBefore, Asks, AsksCommit, IsAsked, ack_of, EndsWait, Settles, HasJob, Finishes, failed_after}
 use Rattle.zc_open.specs.Heard.{IsStart, IsHeard, AreNumbered}
 use Rattle.zc_open.specs.Points.{Point, IsPoint, AreAcked, AreJobsOf, IsLined}
 use Rattle.zc_open.proofs.HeardLaws.{heard_asks, heard_commit, heard_ends, heard_finishes, heard_fails, heard_before, heard_numbers, heard_group, heard_calls}
@@ -32,7 +33,7 @@ use Rattle.zc_open.proofs.BaseLaws.{held_small}
 use Rattle.zc_open.proofs.PointLaws.{lined_asks, lined_commit, lined_ends, lined_fails, lined_before, lined_step}
 use Rattle.zc_pool.specs.Running.{Run, IsKept, IsPool, Survives, StandsUnlessFailed, IsOnDisks, IsRunning}
 use Rattle.zc_pool.specs.Carried.{Carries, IsSomePool}
-use Rattle.zc_pool.proofs.SurvivesLaws.{survives_longer, survives_acked, survives_job, still_none_failed, now_failed}
+use Rattle.zc_pool.proofs.SurvivesLaws.{acked_within, survives_longer, survives_acked, survives_job, still_none_failed, now_failed}
 
 -- ---- from what is carried to what runs
 
@@ -75,7 +76,7 @@ goes_further shape other t u v root mid next old between new same one more run i
 
 -- the root is the same
 kept_with : (shape : Shape) (run : Run) (root : Root) (old new : OpenPool) (point : Point) → IsKept shape run root old point → IsHeard run.start run.claim new
-    → IsLined run.start root.limits point new → new.group ≡ old.group → IsKept shape run root new point
+    → IsLined run.start run.claim root.limits point new → new.group ≡ old.group → IsKept shape run root new point
 kept_with shape run root old new point is heard lined group_is = record {
   start_is = is.start_is;
   claim = is.claim;
@@ -90,7 +91,7 @@ kept_with shape run root old new point is heard lined group_is = record {
 
 -- no call was made, and none has failed since
 disks_with : (shape : Shape) (t : Tape) (run : Run) (root : Root) (old new : OpenPool) (point : Point) → IsOnDisks shape t run root old point → new.calls ≡ old.calls → new.failed ≡ old.failed
-    → Survives shape t run.begun root.limits run.start new.history new.acks → IsOnDisks shape t run root new point
+    → Survives May shape t run.begun root.limits run.start new.history new.acks → IsOnDisks shape t run root new point
 disks_with shape t run root old new point is calls failed survives = record {
   calls = ap (λ (calls : ℕ). run.begun + calls) calls ∙ is.calls;
   first_failed = failed ∙ is.first_failed;
@@ -99,21 +100,21 @@ disks_with shape t run root old new point is calls failed survives = record {
 }
 
 -- as its history grows, with the same acknowledgements
-survives_with : (shape : Shape) (t : Tape) (run : Run) (root : Root) (old new : OpenPool) (point : Point) (more : List Entry) → IsOnDisks shape t run root old point
-    → new.history ≡ old.history ++ more → new.acks ≡ old.acks → Survives shape t run.begun root.limits run.start new.history new.acks
-survives_with shape t run root old new point more is history acks =
-    subst₂ (λ (entries : List Entry) (acks : List Ack). Survives shape t run.begun root.limits run.start entries acks) (sym history) (sym acks)
-    (survives_longer shape t run.begun root.limits run.start old.history more old.acks is.survives)
+survives_with : (shape : Shape) (t : Tape) (run : Run) (root : Root) (old new : OpenPool) (point : Point) (more : List Entry) → IsLined run.start run.claim root.limits point old
+    → IsOnDisks shape t run root old point → new.history ≡ old.history ++ more → new.acks ≡ old.acks → Survives May shape t run.begun root.limits run.start new.history new.acks
+survives_with shape t run root old new point more lined is history acks =
+    subst₂ (λ (entries : List Entry) (acks : List Ack). Survives May shape t run.begun root.limits run.start entries acks) (sym history) (sym acks)
+    (survives_longer May shape t run.begun root.limits run.start old.history more old.acks (acked_within run.start run.claim old.history root.limits point old.acks lined.at_root lined.acked) is.survives)
 
 -- nothing has changed but how the files are kept
 pub carries_before : (shape : Shape) (t : Tape) (root : Root) (old new : OpenPool) → IsAsBefore old new → Carries shape t t root root old new
 carries_before shape t root old new before = record {
   carries = λ run point kept. (
     point,
-    kept_with shape run root old new point kept (heard_before run.start run.claim old new kept.heard before) (lined_before root.limits run.start point old new kept.lined before)
+    kept_with shape run root old new point kept (heard_before run.start run.claim old new kept.heard before) (lined_before root.limits run.start run.claim point old new kept.lined before)
         (ap (λ (pool : OpenPool). pool.group) before.1),
     λ told disks. disks_with shape t run root old new point disks (ap (λ (pool : OpenPool). pool.calls) before.1) (ap (λ (pool : OpenPool). pool.failed) before.1)
-        (subst₂ (λ (entries : List Entry) (acks : List Ack). Survives shape t run.begun root.limits run.start entries acks)
+        (subst₂ (λ (entries : List Entry) (acks : List Ack). Survives May shape t run.begun root.limits run.start entries acks)
         (sym (ap (λ (pool : OpenPool). pool.history) before.1)) (sym (ap (λ (pool : OpenPool). pool.acks) before.1)) disks.survives),
   );
 }
@@ -134,9 +135,9 @@ carries_asks shape t root old new session command reply meets free asks = record
   carries = λ run point kept. (
     point,
     kept_with shape run root old new point kept (heard_asks run.start run.claim old new session command reply meets free kept.heard asks)
-        (lined_asks root.limits run.start point old new session command reply kept.lined asks) (ap (λ (pool : OpenPool). pool.group) asks.rest),
+        (lined_asks root.limits run.start run.claim point old new session command reply kept.lined asks) (ap (λ (pool : OpenPool). pool.group) asks.rest),
     λ told disks. disks_with shape t run root old new point disks (ap (λ (pool : OpenPool). pool.calls) asks.rest) (ap (λ (pool : OpenPool). pool.failed) asks.rest)
-        (survives_with shape t run root old new point (entry.Ask session command ∷ entry.Answer session reply ∷ []) disks
+        (survives_with shape t run root old new point (entry.Ask session command ∷ entry.Answer session reply ∷ []) kept.lined disks
         (ap (λ (pool : OpenPool). pool.history) asks.rest) (ap (λ (pool : OpenPool). pool.acks) asks.rest)),
   );
 }
@@ -149,7 +150,7 @@ carries_commit shape t root old new session free core few asks = record {
     kept_with shape run root old new point kept (heard_commit run.start run.claim old new session free kept.heard asks)
         (lined_commit root.limits run.start run.claim point old new session kept.start_is kept.heard core few kept.lined asks) (ap (λ (pool : OpenPool). pool.group) asks.rest),
     λ told disks. disks_with shape t run root old new point disks (ap (λ (pool : OpenPool). pool.calls) asks.rest) (ap (λ (pool : OpenPool). pool.failed) asks.rest)
-        (survives_with shape t run root old new point (entry.Ask session Commit ∷ entry.Seal old.heart.group ∷ []) disks
+        (survives_with shape t run root old new point (entry.Ask session Commit ∷ entry.Seal old.heart.group ∷ []) kept.lined disks
         (ap (λ (pool : OpenPool). pool.history) asks.rest) (ap (λ (pool : OpenPool). pool.acks) asks.rest)),
   );
 }
@@ -161,15 +162,15 @@ carries_ask shape t root old new session command asked.Waiting meets free core f
 
 -- ---- a settle
 
-carries_failed : (shape : Shape) (t : Tape) (run : Run) (root : Root) (old new : OpenPool) (waiting : Waiting) (reply : Reply) (point : Point) (call : ℕ) → IsOnDisks shape t run root old point
+carries_failed : (shape : Shape) (t : Tape) (run : Run) (root : Root) (old new : OpenPool) (waiting : Waiting) (reply : Reply) (point : Point) (call : ℕ) → IsLined run.start run.claim root.limits point old → IsOnDisks shape t run root old point
     → EndsWait old new waiting reply (Some call) → IsOnDisks shape t run root new point
-carries_failed shape t run root old new waiting reply point call disks ends =
+carries_failed shape t run root old new waiting reply point call lined disks ends =
     disks_with shape t run root old new point disks (ap (λ (pool : OpenPool). pool.calls) ends.1) (ap (λ (pool : OpenPool). pool.failed) ends.1)
-    (survives_with shape t run root old new point (entry.Answer waiting.session reply ∷ []) disks
+    (survives_with shape t run root old new point (entry.Answer waiting.session reply ∷ []) lined disks
     (ap (λ (pool : OpenPool). pool.history) ends.1) (ap (λ (pool : OpenPool). pool.acks) ends.1 ∙ append-nil old.acks))
 
 carries_done : (shape : Shape) (t : Tape) (run : Run) (root : Root) (old new : OpenPool) (waiting : Waiting) (reply : Reply) (point : Point) → IsOnDisks shape t run root old point
-    → IsLined run.start root.limits point old → IsLined run.start root.limits point new → old.failed ≡ None → EndsWait old new waiting reply None → IsOnDisks shape t run root new point
+    → IsLined run.start run.claim root.limits point old → IsLined run.start run.claim root.limits point new → old.failed ≡ None → EndsWait old new waiting reply None → IsOnDisks shape t run root new point
 carries_done shape t run root old new waiting reply point disks before lined none ends =
     let ack : Ack = ack_of old waiting in
     let more : List Entry = entry.Answer waiting.session reply ∷ [] in
@@ -177,18 +178,19 @@ carries_done shape t run root old new waiting reply point disks before lined non
     ap (λ (pool : OpenPool). pool.history) ends.2 ∙ ap (λ (said : Reply). old.history ++ entry.Answer waiting.session said ∷ []) (sym ends.0) in
     let acks : new.acks ≡ old.acks ++ ack ∷ [] = ap (λ (pool : OpenPool). pool.acks) ends.2 in
     let root_stands : StandsUnlessFailed shape t root point None = subst (λ (call : Option ℕ). StandsUnlessFailed shape t root point call) none disks.stands in
-    let acked : Survives shape t run.begun root.limits run.start old.history (old.acks ++ ack ∷ []) =
-    survives_acked shape t run.begun root.limits run.start old.history old.acks ack point root_stands.0 root disks.survives disks.calls before.at_root
+    let acked : Survives May shape t run.begun root.limits run.start old.history (old.acks ++ ack ∷ []) =
+    survives_acked shape t run.begun root.limits run.start run.claim old.history old.acks ack point root_stands.0 root disks.survives disks.calls before.at_root
     (subst (AreAcked point) acks lined.acked) root_stands.1 root_stands.2 in
     disks_with shape t run root old new point disks (ap (λ (pool : OpenPool). pool.calls) ends.2) (ap (λ (pool : OpenPool). pool.failed) ends.2)
-    (subst₂ (λ (entries : List Entry) (acks : List Ack). Survives shape t run.begun root.limits run.start entries acks) (sym history) (sym acks)
-    (survives_longer shape t run.begun root.limits run.start old.history more (old.acks ++ ack ∷ []) acked))
+    (subst₂ (λ (entries : List Entry) (acks : List Ack). Survives May shape t run.begun root.limits run.start entries acks) (sym history) (sym acks)
+    (survives_longer May shape t run.begun root.limits run.start old.history more (old.acks ++ ack ∷ [])
+    (acked_within run.start run.claim old.history root.limits point (old.acks ++ ack ∷ []) before.at_root (subst (AreAcked point) acks lined.acked)) acked))
 
 disks_ended : (shape : Shape) (t : Tape) (run : Run) (root : Root) (old new : OpenPool) (waiting : Waiting) (reply : Reply) (point : Point) (failed : Option ℕ) → old.failed ≡ failed
-    → IsOnDisks shape t run root old point → IsLined run.start root.limits point old → IsLined run.start root.limits point new → EndsWait old new waiting reply failed
+    → IsOnDisks shape t run root old point → IsLined run.start run.claim root.limits point old → IsLined run.start run.claim root.limits point new → EndsWait old new waiting reply failed
     → IsOnDisks shape t run root new point
 disks_ended shape t run root old new waiting reply point None is disks before lined ends = carries_done shape t run root old new waiting reply point disks before lined is ends
-disks_ended shape t run root old new waiting reply point (Some call) is disks before lined ends = carries_failed shape t run root old new waiting reply point call disks ends
+disks_ended shape t run root old new waiting reply point (Some call) is disks before lined ends = carries_failed shape t run root old new waiting reply point call before disks ends
 
 group_ended : (old new : OpenPool) (waiting : Waiting) (reply : Reply) (failed : Option ℕ) → EndsWait old new waiting reply failed → new.group ≡ old.group
 group_ended old new waiting reply None ends = ap (λ (pool : OpenPool). pool.group) ends.2
@@ -198,7 +200,7 @@ pub carries_settle : (shape : Shape) (t : Tape) (root : Root) (old new : OpenPoo
 carries_settle shape t root old new session None settles = carries_nothing shape t t root root old new refl refl settles.4
 carries_settle shape t root old new session (Some reply) (waiting, found, ends) = record {
   carries = λ run point kept.
-      let lined : IsLined run.start root.limits point new = lined_ends root.limits run.start point old new session waiting reply kept.lined found ends in (
+      let lined : IsLined run.start run.claim root.limits point new = lined_ends root.limits run.start run.claim point old new session waiting reply kept.lined found ends in (
         point,
         kept_with shape run root old new point kept (heard_ends run.start run.claim old new session waiting reply kept.heard found ends) lined
             (group_ended old new waiting reply old.failed ends),
@@ -225,15 +227,15 @@ pub record IsFirst (root : Root) (kept : OpenPool) (job : Sealed) : Type 0 where
 first_number : (from : ℕ) (jobs others : List Sealed) (to : ℕ) (job : Sealed) → AreNumbered from jobs to → jobs ≡ job ∷ others → job.group ≡ from
 first_number from jobs others to job numbered is = (subst (λ (all : List Sealed). AreNumbered from all to) is numbered).0
 
-first_held : (run : Run) (limits : Limits) (old : OpenPool) (root : Point) (job : Sealed) (others : List Sealed) → IsLined run.start limits root old → HasJob old job others → job.held ≤ 2 ^ 62
+first_held : (run : Run) (limits : Limits) (old : OpenPool) (root : Point) (job : Sealed) (others : List Sealed) → IsLined run.start run.claim limits root old → HasJob old job others → job.held ≤ 2 ^ 62
 first_held run limits old root job others lined first =
-    let step = lined_step limits run.start root old job others lined first in
+    let step = lined_step limits run.start run.claim root old job others lined first in
     subst (λ (held : ℕ). held ≤ 2 ^ 62) (sym step.3.held) (held_small limits step.0.base step.2.base_is)
 
 pub first_of_pool : (shape : Shape) (root : Root) (kept : OpenPool) (job : Sealed) → IsPool shape root kept → slice_get kept.jobs 0 ≡ Some job → IsFirst root kept job
 first_of_pool shape root kept job (run, point, is) found =
     let first : HasJob kept job (drop 1 kept.jobs) = has_job kept job found in
-    let step = lined_step root.limits run.start point kept job (drop 1 kept.jobs) is.lined first in
+    let step = lined_step root.limits run.start run.claim point kept job (drop 1 kept.jobs) is.lined first in
     let number : job.group ≡ kept.group + 1 = first_number (kept.group + 1) kept.jobs (drop 1 kept.jobs) kept.heart.group job is.heard.numbered first.jobs_are in
     record {
       next_group = number ∙ ap (λ (group : ℕ). group + 1) (is.group ∙ sym is.body_group);
@@ -271,23 +273,23 @@ pub record IsCutShort (shape : Shape) (t u : Tape) (root : Root) (job : Sealed) 
 
 -- while a job is written, from the point of the root to the next, a crash leaves a survivor
 job_survives : (shape : Shape) (t u : Tape) (run : Run) (root : Root) (old : OpenPool) (job : Sealed) (point to : Point) → IsKept shape run root old point
-    → IsPoint run.start old.history root.limits to → point.entries ≤ to.entries → IsJob point.base to.base job → old.failed ≡ None → Extends t u
+    → IsPoint run.start run.claim old.history root.limits to → point.entries ≤ to.entries → IsJob point.base to.base job → old.failed ≡ None → Extends t u
     → ((s : State) (from to : Base) → IsRooted shape t s root from → IsBase root.limits to → IsJob from to job → LeavesJob shape s to t u)
-    → IsOnDisks shape t run root old point → Survives shape u run.begun root.limits run.start old.history old.acks
+    → IsOnDisks shape t run root old point → Survives May shape u run.begun root.limits run.start old.history old.acks
 job_survives shape t u run root old job point to kept is later leads none longer any_moment disks =
     let stands : StandsUnlessFailed shape t root point None = subst (λ (call : Option ℕ). StandsUnlessFailed shape t root point call) none disks.stands in
-    survives_job shape t u run.begun root.limits run.start old.history old.acks point to stands.0 root longer disks.survives kept.lined.at_root is later kept.lined.acked stands.1
+    survives_job shape t u run.begun root.limits run.start run.claim old.history old.acks point to stands.0 root longer disks.survives kept.lined.at_root is later kept.lined.acked stands.1
     (any_moment stands.0 point.base to.base stands.1 is.base_is leads)
 
 -- what is kept in memory once the job is written
 kept_written : (shape : Shape) (t u : Tape) (run : Run) (root next : Root) (old new : OpenPool) (job : Sealed) (made : ℕ) (done : GroupDone) (point to : Point) → IsKept shape run root old point
-    → IsWritten shape t u root next job made → IsPoint run.start old.history root.limits to → IsJob point.base to.base job → IsHeard run.start run.claim new → IsLined run.start root.limits to new
+    → IsWritten shape t u root next job made → IsPoint run.start run.claim old.history root.limits to → IsJob point.base to.base job → IsHeard run.start run.claim new → IsLined run.start run.claim root.limits to new
     → new.group ≡ job.group → IsKept shape run next new to
 kept_written shape t u run root next old new job made done point to kept written is leads heard lined group_is = record {
   start_is = subst (λ (limits : Limits). IsStart limits run.start) (sym written.limits) kept.start_is;
   claim = kept.claim;
   heard = heard;
-  lined = subst (λ (limits : Limits). IsLined run.start limits to new) (sym written.limits) lined;
+  lined = subst (λ (limits : Limits). IsLined run.start run.claim limits to new) (sym written.limits) lined;
   size = record { devices = ap (λ (limits : Limits). limits.devices) written.limits ∙ kept.size.devices; places = ap (λ (limits : Limits). limits.places) written.limits ∙ kept.size.places };
   places = written.places;
   tree = written.tree point.base to.base is.base_is kept.tree leads;
@@ -297,7 +299,7 @@ kept_written shape t u run root next old new job made done point to kept written
 
 -- and what the disks hold then
 disks_written : (shape : Shape) (t u : Tape) (run : Run) (root next : Root) (old new : OpenPool) (job : Sealed) (made : ℕ) (done : GroupDone) (point to : Point) → IsKept shape run root old point
-    → IsWritten shape t u root next job made → IsPoint run.start old.history root.limits to → point.entries ≤ to.entries → IsJob point.base to.base job → old.failed ≡ None
+    → IsWritten shape t u root next job made → IsPoint run.start run.claim old.history root.limits to → point.entries ≤ to.entries → IsJob point.base to.base job → old.failed ≡ None
     → Finishes old new made done → IsTrue t.told → IsOnDisks shape t run root old point → IsOnDisks shape u run next new to
 disks_written shape t u run root next old new job made done point to kept written is later leads none finishes told disks =
     let longer : Extends t u = written.extends told in
@@ -309,18 +311,19 @@ disks_written shape t u run root next old new job made done point to kept writte
     let stood : StandsUnlessFailed shape t root point None = subst (λ (call : Option ℕ). StandsUnlessFailed shape t root point call) none disks.stands in
     let after : (next_state : State) × IsJobDone shape u stood.0 next_state next to.base = written.done stood.0 point.base to.base stood.1 is.base_is leads in
     let stands : StandsUnlessFailed shape u next to None = (after.0, after.1.rooted, after.1.only) in
-    let survives : Survives shape u run.begun root.limits run.start old.history old.acks =
+    let survives : Survives May shape u run.begun root.limits run.start old.history old.acks =
     job_survives shape t u run root old job point to kept is later leads none longer written.any_moment disks in
-    let longer_history : Survives shape u run.begun root.limits run.start (old.history ++ entry.Finish finishes.job.group finishes.job.held ∷ []) old.acks =
-    survives_longer shape u run.begun root.limits run.start old.history (entry.Finish finishes.job.group finishes.job.held ∷ []) old.acks survives in
-    let of_new : Survives shape u run.begun root.limits run.start new.history new.acks =
-    subst₂ (λ (entries : List Entry) (acks : List Ack). Survives shape u run.begun root.limits run.start entries acks)
+    let longer_history : Survives May shape u run.begun root.limits run.start (old.history ++ entry.Finish finishes.job.group finishes.job.held ∷ []) old.acks =
+    survives_longer May shape u run.begun root.limits run.start old.history (entry.Finish finishes.job.group finishes.job.held ∷ []) old.acks
+    (acked_within run.start run.claim old.history root.limits point old.acks kept.lined.at_root kept.lined.acked) survives in
+    let of_new : Survives May shape u run.begun root.limits run.start new.history new.acks =
+    subst₂ (λ (entries : List Entry) (acks : List Ack). Survives May shape u run.begun root.limits run.start entries acks)
     (sym (ap (λ (pool : OpenPool). pool.history) finishes.rest)) (sym (ap (λ (pool : OpenPool). pool.acks) finishes.rest)) longer_history in
     record {
       calls = omega arith;
       first_failed = failed ∙ still_none_failed run.begun t u before longer (sym none ∙ disks.first_failed) (written.all_made told);
       stands = subst (λ (call : Option ℕ). StandsUnlessFailed shape u next to call) (sym failed) stands;
-      survives = subst (λ (limits : Limits). Survives shape u run.begun limits run.start new.history new.acks) (sym written.limits) of_new;
+      survives = subst (λ (limits : Limits). Survives May shape u run.begun limits run.start new.history new.acks) (sym written.limits) of_new;
     }
 
 -- the job that a finish speaks of is the first
@@ -333,10 +336,10 @@ pub carries_written : (shape : Shape) (t u : Tape) (root next : Root) (old new :
 carries_written shape t u root next old new job made done found none small finishes written = record {
   carries = λ run point kept.
       let first : HasJob old job (drop 1 old.jobs) = has_job old job found in
-      let step = lined_step root.limits run.start point old job (drop 1 old.jobs) kept.lined first in
+      let step = lined_step root.limits run.start run.claim point old job (drop 1 old.jobs) kept.lined first in
       let heard : IsHeard run.start run.claim new =
       heard_finishes run.start run.claim old new made done kept.heard none small (λ one others has. first_held run root.limits old point one others kept.lined has) step.4 finishes in
-      let lined : IsLined run.start root.limits step.0 new = step.5 run.claim made new done kept.heard finishes in
+      let lined : IsLined run.start run.claim root.limits step.0 new = step.5 made new done kept.heard finishes in
       let same : finishes.job ≡ job = same_first old finishes.job job finishes.others (drop 1 old.jobs) finishes.first first in
       let group : new.group ≡ job.group = ap (λ (pool : OpenPool). pool.group) finishes.rest ∙ ap (λ (one : Sealed). one.group) same in (
         step.0,
@@ -347,8 +350,8 @@ carries_written shape t u root next old new job made done found none small finis
 
 -- what the disks hold where a call failed
 disks_failed : (shape : Shape) (t u : Tape) (run : Run) (root : Root) (old : OpenPool) (job : Sealed) (made : ℕ) (point to : Point) → IsKept shape run root old point
-    → IsCutShort shape t u root job made → IsPoint run.start old.history root.limits to → point.entries ≤ to.entries → IsJob point.base to.base job → old.failed ≡ None
-    → IsTrue t.told → IsOnDisks shape t run root old point → IsOnDisks shape u run root (failed_behind old made) point
+    → IsCutShort shape t u root job made → IsPoint run.start run.claim old.history root.limits to → point.entries ≤ to.entries → IsJob point.base to.base job → old.failed ≡ None
+    → IsTrue t.told → IsOnDisks shape t run root old point → IsOnDisks shape u run root (failed_after old made) point
 disks_failed shape t u run root old job made point to kept cut is later leads none told disks =
     let longer : Extends t u = cut.extends told in
     let counted : length u.calls ≡ length t.calls + made = cut.counted told in
@@ -362,20 +365,20 @@ disks_failed shape t u run root old job made point to kept cut is later leads no
 
 -- a call failed, and the root is what it was
 pub carries_cut_short : (shape : Shape) (t u : Tape) (root : Root) (old : OpenPool) (job : Sealed) (made : ℕ) → slice_get old.jobs 0 ≡ Some job → old.failed ≡ None
-    → made < 2 ^ 64 → IsCutShort shape t u root job made → Carries shape t u root root old (failed_behind old made)
+    → made < 2 ^ 64 → IsCutShort shape t u root job made → Carries shape t u root root old (failed_after old made)
 carries_cut_short shape t u root old job made found none small cut = record {
   carries = λ run point kept.
       let first : HasJob old job (drop 1 old.jobs) = has_job old job found in
-      let step = lined_step root.limits run.start point old job (drop 1 old.jobs) kept.lined first in (
+      let step = lined_step root.limits run.start run.claim point old job (drop 1 old.jobs) kept.lined first in (
         point,
-        kept_with shape run root old (failed_behind old made) point kept (heard_fails run.start run.claim old made kept.heard none small)
-            (lined_fails root.limits run.start point old made kept.lined) refl,
+        kept_with shape run root old (failed_after old made) point kept (heard_fails run.start run.claim old made kept.heard none small)
+            (lined_fails root.limits run.start run.claim point old made kept.lined) refl,
         λ told disks. disks_failed shape t u run root old job made point step.0 kept cut step.2 step.1 step.3 none told disks,
       );
 }
 
 -- the same, as the function that writes it tells it
 pub carries_failed_at : (shape : Shape) (t u : Tape) (root next : Root) (old new : OpenPool) (job : Sealed) (made : ℕ) → slice_get old.jobs 0 ≡ Some job → old.failed ≡ None
-    → made < 2 ^ 64 → next ≡ root → new ≡ failed_behind old made → IsCutShort shape t u root job made → Carries shape t u root next old new
+    → made < 2 ^ 64 → next ≡ root → new ≡ failed_after old made → IsCutShort shape t u root job made → Carries shape t u root next old new
 carries_failed_at shape t u root next old new job made found none small root_is kept_is cut =
     subst₂ (λ (one : Root) (kept : OpenPool). Carries shape t u root one old kept) (sym root_is) (sym kept_is) (carries_cut_short shape t u root old job made found none small cut)

@@ -176,7 +176,7 @@ module _ (root : Root) (blocks : List FoundBlock) (taken : IsTaken root.limits r
 
       -- so what is kept in memory is right, before anything was asked
       pub kept_begins : (shape : Shape) (begun : ℕ) → HasSize shape root → HasPlaces root → root.body.group ≡ root.tree.group
-          → IsKept shape (record { start = found; claim = root.tree.group; begun = begun }) root (begun_pool core root.tree.group calls) (record { entries = 0; base = base_of core })
+          → IsKept shape (record { start = found; claim = root.tree.group; begun = begun }) root (begun_pool core root.tree.group calls) (record { entries = 0; group = root.tree.group; base = base_of core })
       kept_begins shape begun size places body_group = record {
         start_is = found_start;
         claim = taken.group;

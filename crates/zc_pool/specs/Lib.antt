@@ -1,4 +1,4 @@
-pub mod Answers
+pub mod EventAnswers
 pub mod Carried
 pub mod Importing
 pub mod Opened

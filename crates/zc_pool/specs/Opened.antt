@@ -7,7 +7,7 @@ use Rattle.zc_state.specs.State.{State, StandsFor, IsFresh}
 use Rattle.zc_group.specs.declared.root.Root.{Root}
 use Rattle.zc_group.specs.declared.import.ImportFault.{ImportFault}
 use Rattle.zc_group.specs.declared.import.ImportFault.TheVariants.{NoMemory, NoPool, DiskFault, Damaged}
-use Rattle.zc_lane.specs.Held.{found_in}
+use Rattle.zc_lane.specs.Found.{found_in}
 use Rattle.zc_open.specs.declared.open_pool.OpenPool.{OpenPool}
 use Rattle.zc_pool.specs.Running.{Run, IsRunning}
 
@@ -32,8 +32,8 @@ pub record IsOpenedFrom (shape : Shape) (t u : Tape) (root : Root) (kept : OpenP
   pub running : IsRunning shape u (run_from root.limits state (length t.calls)) root kept
 
 -- a fault that comes before anything is written
-abbrev pub IsBeforeWrites : ImportFault → Type 0
-IsBeforeWrites NoMemory = ⊥
-IsBeforeWrites NoPool = Unit {0}
-IsBeforeWrites DiskFault = ⊥
-IsBeforeWrites (Damaged damage) = Unit {0}
+abbrev pub IsBeforeClaim : ImportFault → Type 0
+IsBeforeClaim NoMemory = ⊥
+IsBeforeClaim NoPool = Unit {0}
+IsBeforeClaim DiskFault = ⊥
+IsBeforeClaim (Damaged damage) = Unit {0}

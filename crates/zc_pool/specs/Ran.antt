@@ -5,13 +5,13 @@ use Rattle.zc_pool.specs.declared.event.Event.{Event}
 use Rattle.zc_pool.specs.declared.event.Progress.{Progress}
 use Rattle.zc_pool.specs.declared.events.Ran.{Ran}
 use Rattle.zc_pool.specs.declared.events.Ran.TheVariants.{Whole, Stopped}
-use Rattle.zc_pool.specs.Answers.{MayAsk, AnswersEvent}
+use Rattle.zc_pool.specs.EventAnswers.{MayAsk, AnswersEvent}
 
 -- the event may be made, and was
 abbrev pub Makes : (old new : OpenPool) → Event → Type 0
 Makes old new event = MayAsk old event × (progress : Progress) × AnswersEvent old new event progress
 
--- the events were made in order, each behind those before it
+-- the events were made in order, each after those before it
 abbrev pub MakesAll : (old new : OpenPool) → List Event → Type 0
 MakesAll old new [] = new ≡ old
 MakesAll old new (event ∷ events) = (mid : OpenPool) × Makes old mid event × MakesAll mid new events

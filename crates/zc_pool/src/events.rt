@@ -1,7 +1,7 @@
 // How events are made.
 //
 // An ask and a settle make no call. A step writes the first job: its finish stands in the history before the first call, so that nothing
-// takes memory behind the last one, and is taken out again where the job isn't written.
+// takes memory after the last one, and is taken out again where the job isn't written.
 ghost use Rattle.std.specs.Prelude.{◌≡◌, ◌↔◌, ◌+◌, ◌<◌, ◌≤◌, ◌^◌, length, None, IfOk, OnErr, IsTrue};
 ghost use Rattle.zc_tape.specs.Cause.{Rose};
 ghost use Rattle.zc_tape.specs.Tape.{Shape, Tape};
@@ -11,8 +11,8 @@ ghost use Rattle.zc_heart.specs.Core.{IsCore};
 ghost use Rattle.zc_heart.specs.Meaning.{MayAbsorb};
 ghost use Rattle.zc_group.specs.declared.root.Root.{Root};
 ghost use Rattle.zc_open.specs.Acked.{AreAcks};
-ghost use Rattle.zc_open.specs.Events.{waiting_of, IsAsBefore, forgotten, failed_behind, FinishesNoted};
-ghost use Rattle.zc_pool.specs.Answers.{MayAsk, AnswersEvent, IsStep};
+ghost use Rattle.zc_open.specs.Events.{waiting_of, IsAsBefore, forgotten, failed_after, FinishesNoted};
+ghost use Rattle.zc_pool.specs.EventAnswers.{MayAsk, AnswersEvent, IsStep};
 ghost use Rattle.zc_pool.specs.Carried.{Carries, IsSomePool, IsLeftAlone, IsSuspended, progress_of_ask, progress_of_settle};
 ghost use Rattle.zc_pool.specs.Ran.{RanTo};
 ghost use Rattle.zc_pool.specs.Running.{Run, IsPool, IsRunning};
@@ -33,7 +33,7 @@ use zc_tape::DiskSet;
 pub enum Ran {
     /// All of them were made.
     Whole,
-    /// Those before this one were made, counted from 0, and this one may not be made behind them.
+    /// Those before this one were made, counted from 0, and this one may not be made after them.
     Stopped { at: usize },
 }
 
@@ -50,7 +50,7 @@ impl<D: DiskSet> Pool<D> {
         ensures answers { IfOk result (λ progress. AnswersEvent self.old.kept self.new.kept event progress) }
 
         // Whatever run it is of, it is of it still: its history is legal, and wherever its calls are cut short a crash leaves the files
-        // behind some of the first entries, among which are the commits that were acknowledged.
+        // after some of the first entries, among which are the commits that were acknowledged.
         ensures goes_on { (run : Run) → IsRunning (D.shape self.old.disks) (D.tape self.old.disks) run self.old.root self.old.kept
             → IsRunning (D.shape self.old.disks) (D.tape self.new.disks) run self.new.root self.new.kept }
         ensures pool { IsPool (D.shape self.new.disks) self.new.root self.new.kept }
@@ -266,7 +266,7 @@ fn finish_first(pool: &mut OpenPool, made: u64, done: &GroupDone) -> Progress
 fn cut_short(pool: &mut OpenPool, made: u64) -> Progress
     requires some { 0 < length pool.old.history }
     requires width { pool.old.calls + 2 ^ 64 ≤ 2 ^ 128 }
-    ensures failed { pool.new ≡ failed_behind (forgotten pool.old) made }
+    ensures failed { pool.new ≡ failed_after (forgotten pool.old) made }
     ensures few { made < 2 ^ 64 }
     ensures told { result ≡ Progress.Suspended (pool.old.calls + made) }
 {

@@ -2,7 +2,7 @@
 //
 // What is asked changes the files in memory and stands in the history (zc_open). A step writes the first group that waits (zc_lane). The
 // theorem over all events stands here: whatever a pool is asked, and wherever its calls are cut short, its history is legal, and a crash
-// leaves the files behind some of the first entries of it, among them every commit that was answered by then.
+// leaves the files after some of the first entries of it, among them every commit that was answered by then.
 #![tactic(auto)]
 
 mod event;

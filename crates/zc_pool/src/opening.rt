@@ -3,18 +3,19 @@ ghost use Rattle.std.specs.Prelude.{◌≡◌, ◌≤◌, ◌⊎◌, [], length,
 ghost use Rattle.zc_num.specs.Limits.{AreLimits};
 ghost use Rattle.zc_num.specs.declared.limits.Limits.{Limits as LimitsOf};
 ghost use Rattle.zc_tape.specs.Cause.{Rose};
-ghost use Rattle.zc_tape.specs.Crash.{AtRest, reads};
+ghost use Rattle.zc_tape.specs.Crash.{May, AtRest, reads};
 ghost use Rattle.zc_tape.proofs.Extends.{Extends};
 ghost use Rattle.zc_root.specs.Root.{IsOpenRoot, HasWholeRoots};
 ghost use Rattle.zc_root.specs.declared.body.Body.{Body as BodyOf};
 ghost use Rattle.zc_layout.specs.Standing.{HasNoRoot};
 ghost use Rattle.zc_state.specs.State.{State, StandsFor, IsFresh};
-ghost use Rattle.zc_image.specs.Answers.{IsWhole};
-ghost use Rattle.zc_group.specs.Created.{HoldsNothing, LeavesFirst, IsFirst, given_back, FailsBy};
-ghost use Rattle.zc_group.specs.Imported.{IsTaken, IsNoAnswer, IsDamageOf};
-ghost use Rattle.zc_lane.specs.Held.{found_in};
+ghost use Rattle.zc_image.specs.ReadAnswers.{IsWhole};
+ghost use Rattle.zc_group.specs.Created.{HoldsNothing, LeavesFirst, IsFirst, IsCreationWhole, WritesCreation, given_back, FailsBy};
+ghost use Rattle.zc_group.specs.Imported.{IsTaken, IsNoAnswer, IsDamageOf, IsDamage, WritesClaim, StopsAtFailure};
+ghost use Rattle.zc_lane.specs.Found.{found_in};
+ghost use Rattle.zc_open.specs.Acked.{AreAcks};
 ghost use Rattle.zc_pool.specs.Importing.{disks_of, heart_block, IsHeld};
-ghost use Rattle.zc_pool.specs.Opened.{IsNew, IsOpenedFrom, IsBeforeWrites};
+ghost use Rattle.zc_pool.specs.Opened.{IsNew, IsOpenedFrom, IsBeforeClaim};
 ghost use Rattle.zc_pool.specs.Running.{IsPool, Survives};
 
 use crate::Pool;
@@ -32,7 +33,7 @@ impl<D: DiskSet> Pool<D> {
     ///
     /// # Errors
     /// `NoPool` where no pool has the size of the disk set or no root is open; `Damaged` with the first damage; and then nothing was
-    /// written. `DiskFault` where a call of the disks failed. Want of memory, which may come behind the claim group too.
+    /// written. `DiskFault` where a call of the disks failed. Want of memory, which may come after the claim group too.
     pub fn import(alloc: Global, disks: D) -> Result<Pool<D>, (ImportFault, D)>
         ensures shape { D.shape (disks_of result) ≡ D.shape disks }
         ensures told { (D.tape (disks_of result)).told ≡ (D.tape disks).told }
@@ -41,6 +42,7 @@ impl<D: DiskSet> Pool<D> {
         // What is kept in memory fits together, whatever the disks tell, and nothing was asked yet.
         ensures pool { IfOk result (λ pool. IsPool (D.shape pool.disks) pool.root pool.kept) }
         ensures new { IfOk result (λ pool. IsNew pool.kept) }
+        ensures acks { IfOk result (λ pool. AreAcks pool.kept) }
 
         // Once it is Ok, a pool stood there, and it runs from its files on.
         ensures opened { IfOk result (λ pool. IsTrue (D.tape disks).told → AtRest (D.tape disks)
@@ -48,7 +50,7 @@ impl<D: DiskSet> Pool<D> {
 
         // Wherever it is cut short, the files are left that stood there.
         ensures survives { (s : State) (limits : LimitsOf) → IsTrue (D.tape disks).told → AtRest (D.tape disks) → StandsFor (D.shape disks) (reads (D.tape disks)) s
-            → Survives (D.shape disks) (D.tape (disks_of result)) (length (D.tape disks).calls) limits (found_in limits s) [] [] }
+            → Survives May (D.shape disks) (D.tape (disks_of result)) (length (D.tape disks).calls) limits (found_in limits s) [] [] }
 
         // A sound pool whose numbers are low is taken up, unless memory is wanting or a call fails.
         ensures only { (s : State) → IsWhole (D.tape disks) → StandsFor (D.shape disks) (reads (D.tape disks)) s → IsFresh s
@@ -56,9 +58,15 @@ impl<D: DiskSet> Pool<D> {
         ensures damaged { IfErr result (λ refused. IsWhole (D.tape disks) → IsDamageOf (D.shape disks) (reads (D.tape disks)) refused.0) }
         ensures none { IfErr result (λ refused. refused.0 ≡ ImportFault.NoPool → IsWhole (D.tape disks)
             → AreLimits (D.shape disks).devices (D.shape disks).places → HasNoRoot (reads (D.tape disks))) }
-        ensures kept { IfErr result (λ refused. IsBeforeWrites refused.0 → D.tape refused.1 ≡ D.tape disks) }
+        ensures sized { IfErr result (λ refused. IsDamage refused.0 → AreLimits (D.shape disks).devices (D.shape disks).places) }
+        ensures kept { IfErr result (λ refused. IsBeforeClaim refused.0 → D.tape refused.1 ≡ D.tape disks) }
         ensures later { D.faults disks ≤ D.faults (disks_of result) }
         ensures cause { IfErr result (λ refused. refused.0 ≡ ImportFault.DiskFault → Rose (D.faults disks) (D.faults refused.1)) }
+
+        // What was written is a front of the calls of one claim group; where a call failed, it is the last of them.
+        ensures writes { IsTrue (D.tape disks).told → AtRest (D.tape disks) → WritesClaim (D.shape disks) (D.tape disks) (D.tape (disks_of result)) }
+        ensures stops { IfErr result (λ refused. refused.0 ≡ ImportFault.DiskFault → IsTrue (D.tape disks).told
+            → StopsAtFailure (D.tape disks) (D.tape refused.1)) }
     {
         match import_pool(alloc, disks) {
             Ok((disks, imported)) => match hold(alloc, imported) {
@@ -95,6 +103,11 @@ impl<D: DiskSet> Pool<D> {
         ensures memory { FailsBy result CreateFault.NoMemory → D.tape (given_back result) ≡ D.tape disks }
         ensures later { D.faults disks ≤ D.faults (given_back result) }
         ensures cause { FailsBy result CreateFault.Failed → Rose (D.faults disks) (D.faults (given_back result)) }
+
+        // All of its calls were made, in order and each once; or a front of them, where it isn't Ok, and only the last of them failed.
+        ensures written { OnOk result (HoldsNothing (D.tape disks) → IsCreationWhole (D.shape disks) name.now (D.tape disks) (D.tape (given_back result))) }
+        ensures begun { HoldsNothing (D.tape disks) → WritesCreation (D.shape disks) name.now (D.tape disks) (D.tape (given_back result)) }
+        ensures stops { FailsBy result CreateFault.Failed → IsTrue (D.tape disks).told → StopsAtFailure (D.tape disks) (D.tape (given_back result)) }
     {
         create_pool(alloc, disks, name)
     }
@@ -115,7 +128,7 @@ fn hold(alloc: Global, imported: Imported) -> Result<(Root, OpenPool), NoMemory>
     Ok((root, kept))
 }
 
-// Holds the files of the root's tree, over these blocks, behind so many calls.
+// Holds the files of the root's tree, over these blocks, after so many calls.
 fn hold_root(
     alloc: Global,
     root: &Root,

@@ -1,5 +1,12 @@
+pub mod AckedLaws
+pub mod AnswerLaws
 pub mod CreatedLaws
+pub mod EndLaws
+pub mod EntryLaws
+pub mod ExecutionLaws
+pub mod GoesLaws
 pub mod Outcome
 pub mod RunLaws
+pub mod StoppedLaws
 pub mod Streams
 pub mod WordLaws

@@ -12,31 +12,48 @@ use Rattle.zc_damage.specs.declared.damage.Damage.{Damage}
 use Rattle.zc_state.specs.State.{State, StandsFor}
 use Rattle.zc_state.specs.Reading.{read_state}
 use Rattle.zc_state.proofs.ReadLaws.{read_only}
-use Rattle.zc_session.specs.Session.{AreActs}
+use Rattle.zc_prog.specs.Session.{AreActs}
 use Rattle.zc_prog.specs.declared.words.Task.{Task}
+use Rattle.zc_prog.specs.declared.words.Task.TheVariants.{Play, Create}
 use Rattle.zc_prog.specs.declared.ended.Ended.{Ended}
 use Rattle.zc_prog.specs.declared.ended.Ended.TheVariants.{Usage, ReadFault, TooLarge, BadLine, Missing, DiskFault, NoPool, Damaged, PoolExists, OtherSize, Played, Created}
 use Rattle.zc_prog.specs.Input.{WasRead}
 use Rattle.zc_prog.specs.Output.{IsReported}
 use Rattle.zc_prog.specs.Ended.{code_of, text_of}
-use Rattle.zc_prog.specs.Words.{task_of}
-use Rattle.zc_prog.specs.Pooled.{HoldsOfGiven, IsReturn, IsPlayedAs, IsPooled, SurvivesLines}
-use Rattle.zc_prog.specs.Play.{Outside, lines_in, WasPlayed, IsCause, IsEnded, IsRunOf, IsRun, SurvivesPlay, WasSound, IsOrderly, IsComplete}
+use Rattle.zc_prog.specs.Words.{task_of, name_in}
+use Rattle.zc_prog.specs.Pooled.{HoldsOfGiven, IsReturn, IsPlayedAs, IsPooled, WasStopped}
+use Rattle.zc_prog.specs.Play.{Outside, lines_in, WasPlayed, IsCause, IsEnded, IsStopped, IsRunOf, IsRun, WasSound, IsOrderly, IsComplete}
 
--- ---- crashes
+-- ---- want of memory
 
 -- nothing was handed back
-pub none_survives : (old new : Outside) (name : List ℕ) → new.stock ≡ old.stock → SurvivesPlay old new name
-none_survives old new name same told = inl (ap (λ (s : Stock). s.gives) same)
+pub none_stopped : (old new : Outside) (name : List ℕ) → new.stock ≡ old.stock → IsStopped old new (Some (Play name))
+none_stopped old new name same told = inl (ap (λ (s : Stock). s.gives) same)
 
--- what the session says of the set that was handed back, with the script that was read
-pub survives_script : (old new : Outside) (name script : List ℕ) (lines : List Line) → WasRead old.left new.left script → first_bad (name ∷ []) (texts_of script) ≡ None → lines ≡ lines_in name script
-    → HoldsOfGiven (SurvivesLines lines) old.stock new.stock name → SurvivesPlay old new name
-survives_script old new name script lines read good same holds told = ⊎_elim
+-- what is known of the set that was handed back, with the script that was read
+pub script_stopped : (old new : Outside) (name script : List ℕ) (lines : List Line) → WasRead old.left new.left script → first_bad (name ∷ []) (texts_of script) ≡ None → lines ≡ lines_in name script
+    → HoldsOfGiven (WasStopped lines) old.stock new.stock name → IsStopped old new (Some (Play name))
+script_stopped old new name script lines read good same holds told = ⊎_elim
     (λ (none : new.stock.gives ≡ old.stock.gives). inl none)
-    (λ (one : (gave : Gave) × (gave.name ≡ name) × (new.stock.gives ≡ old.stock.gives ++ gave ∷ []) × SurvivesLines lines gave).
-    inr (one.0, one.1, one.2, record { script = script; read = read; good = good; survives = subst (λ (l : List Line). SurvivesLines l one.0) same one.3 }))
+    (λ (one : (gave : Gave) × (gave.name ≡ name) × (new.stock.gives ≡ old.stock.gives ++ gave ∷ []) × WasStopped lines gave).
+    inr (one.0, one.1, one.2, record { script = script; read = read; good = good; cut_short = subst (λ (l : List Line). WasStopped l one.0) same one.3 }))
     (holds told)
+
+-- nothing at all was done
+pub nothing_stopped : (old : Outside) (task : Option Task) → IsStopped old old task
+nothing_stopped old None = λ told. inl refl
+nothing_stopped old (Some (Play name)) = λ told. inl refl
+nothing_stopped old (Some (Create name devices places)) = λ told. inl refl
+
+pub nothing_done : (task : Option Task) (old : Outside) (taken : Stream) (write_faults code : ℕ) → code ≡ 1 → IsRunOf task old old taken taken write_faults write_faults code
+nothing_done task old taken write_faults code one = inr (one, λ _. refl, nothing_stopped old task)
+
+-- what it came to was told, or memory was wanting for that
+pub told_or_stopped : (task : Task) (old new : Outside) (taken taken_after : Stream) (write_faults write_faults_after code : ℕ) (ended : Ended) → IsEnded old new (Some task) ended → IsStopped old new (Some task)
+    → IsReported taken taken_after write_faults write_faults_after (text_of (name_in (Some task)) ended) (code_of ended) code ⊎ ((code ≡ 1) × Keeps taken taken_after)
+    → IsRunOf (Some task) old new taken taken_after write_faults write_faults_after code
+told_or_stopped task old new taken taken_after write_faults write_faults_after code ended is stopped told =
+    ⊎_elim (λ reported. inl (ended, is, reported)) (λ (memory : (code ≡ 1) × Keeps taken taken_after). inr (memory.0, memory.1, stopped)) told
 
 -- ---- what a script came to
 
@@ -73,7 +90,7 @@ pub usage_run : (task : Option Task) (old : Outside) (taken taken_after : Stream
     → IsRunOf task old old taken taken_after write_faults write_faults_after code
 usage_run task old taken taken_after write_faults write_faults_after code none told =
     subst (λ (t : Option Task). IsRunOf t old old taken taken_after write_faults write_faults_after code) none
-    (⊎_elim (λ reported. inl (Usage, record { usage = refl; left = refl; stock = refl }, reported)) (λ memory. inr memory) told)
+    (⊎_elim (λ reported. inl (Usage, record { usage = refl; left = refl; stock = refl }, reported)) (λ (memory : (code ≡ 1) × Keeps taken taken_after). inr (memory.0, memory.1, λ _. inl refl)) told)
 
 -- ---- a run in which all is in order
 
@@ -86,7 +103,7 @@ no_damage : (gave : Gave) (damage : Damage) → WasSound gave → IsPlayedAs 0 0
 no_damage gave damage sound is =
     let s : State = sound.1.0 in
     let stands : StandsFor gave.shape gave.tape.start s = sound.1.1 in
-    let found = is.1 sound.0 in
+    let found = is.1.read sound.0 in
     let same : s.body ≡ found.0 = one_root gave.tape.start s.body found.0 stands.stands.root found.1 in
     let read : read_state gave.shape gave.tape.start found.0 ≡ Ok s = ap (read_state gave.shape gave.tape.start) (sym same) ∙ read_only gave.shape gave.tape.start s stands.state sound.1.2 stands.stands.holds in
     differ (sym found.2 ∙ read)
@@ -118,7 +135,7 @@ module _ (old new : Outside) (name : List ℕ) (write_faults write_faults_after 
   played_code Missing (script, was) = absurd (true_false (sym orderly.there ∙ was.pooled.0 orderly.shelf_told)) where
     true_false : true ≡ false → ⊥
     true_false e = cc
-  played_code DiskFault (script, was) = absurd (orderly.no_shelf_fault was.pooled)
+  played_code DiskFault (script, was) = absurd (orderly.no_shelf_fault was.pooled.0)
   played_code NoPool (script, was) = absurd (no_none was.pooled.0 (sound_of was.pooled.0 was.pooled.2) was.pooled.3)
   played_code (Damaged damage) (script, was) = absurd (no_damage was.pooled.0 damage (sound_of was.pooled.0 was.pooled.2) was.pooled.3)
   played_code PoolExists cause = absurd cause

@@ -1,7 +1,7 @@
 -- Bytes that a source gave, or a sink took, one piece after the other.
 use Rattle.std.proofs.Common.{◌≡◌, ℕ, zero, suc, ◌+◌, ◌-◌, ◌≤◌, List, [], ◌∷◌, ◌++◌, length, take, drop, IsTrue, arith, refl, sym, ap, ◌∙◌, append_assoc, zero-add, length-append}
 use Rattle.std.proofs.lemmas.Grind.{common_steps}
-use Rattle.zc_io.specs.Stream.{Stream, Gives, Takes}
+use Rattle.zc_io.specs.Stream.{Stream, GivesFront, Takes}
 
 -- a front of nothing is nothing
 take_nothing : (n : ℕ) → ◌≡◌ {A = List ℕ} (take n []) []
@@ -27,20 +27,20 @@ takes_more first old new text piece d n same h e before then told =
     then there ∙ rw e (rw (before told) (append_assoc first.bytes (take d text) (take n (take (length text - d) (drop d text))) ∙ ap (λ t. first.bytes ++ t) (front_more text d n h)))
 
 -- what was given before and what was given then
-pub gives_more : (first old new : Stream) (x y : List ℕ) → old.told ≡ first.told → Gives first old x → Gives old new y → Gives first new (x ++ y)
+pub gives_more : (first old new : Stream) (x y : List ℕ) → old.told ≡ first.told → GivesFront first old x → GivesFront old new y → GivesFront first new (x ++ y)
 gives_more first old new x y same before then told =
     let there : IsTrue old.told = rw same told in
     before told ∙ ap (λ t. x ++ t) (then there) ∙ sym (append_assoc x y new.bytes)
 
 -- nothing is two parts that are nothing
-none_behind : (y z : List ℕ) → [] ≡ y ++ z → z ≡ []
-none_behind [] z e = sym e
-none_behind (b ∷ y) z e = cc
+none_later : (y z : List ℕ) → [] ≡ y ++ z → z ≡ []
+none_later [] z e = sym e
+none_later (b ∷ y) z e = cc
 
 -- a source that had nothing has nothing
-pub gives_nothing : (old new : Stream) (y : List ℕ) → IsTrue old.told → old.bytes ≡ [] → Gives old new y → new.bytes ≡ []
-gives_nothing old new y told none given = none_behind y new.bytes (sym none ∙ given told)
+pub gives_nothing : (old new : Stream) (y : List ℕ) → IsTrue old.told → old.bytes ≡ [] → GivesFront old new y → new.bytes ≡ []
+gives_nothing old new y told none given = none_later y new.bytes (sym none ∙ given told)
 
 -- so many bytes were given, so the source had so many
-pub gave_length : (old new : Stream) (x : List ℕ) (n : ℕ) → IsTrue old.told → n ≤ length x → Gives old new x → n ≤ length old.bytes
+pub gave_length : (old new : Stream) (x : List ℕ) (n : ℕ) → IsTrue old.told → n ≤ length x → GivesFront old new x → n ≤ length old.bytes
 gave_length old new x n told h given = rw (given told) (simp length-append (omega arith))

@@ -9,9 +9,9 @@ use Rattle.zc_damage.specs.declared.damage.DamageKind.TheVariants.{Geometry, Cha
 use Rattle.zc_tape.specs.declared.disks.Failed.{Failed}
 use Rattle.zc_group.specs.declared.create.CreateFault.{CreateFault}
 use Rattle.zc_group.specs.declared.create.CreateFault.TheVariants as create
-use Rattle.zc_session.specs.declared.fault.SessionFault.{SessionFault}
-use Rattle.zc_session.specs.declared.fault.SessionFault.TheVariants as session
-use Rattle.zc_session.specs.declared.session.Played.{Played as RunText}
+use Rattle.zc_prog.specs.declared.fault.SessionFault.{SessionFault}
+use Rattle.zc_prog.specs.declared.fault.SessionFault.TheVariants as session
+use Rattle.zc_prog.specs.declared.session.Played.{Played as RunText}
 use Rattle.zc_prog.specs.declared.ended.Ended.{Ended}
 use Rattle.zc_prog.specs.declared.ended.Ended.TheVariants.{Usage, ReadFault, TooLarge, BadLine, Missing, DiskFault, NoPool, Damaged, PoolExists, OtherSize, Played, Created}
 

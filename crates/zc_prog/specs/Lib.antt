@@ -1,6 +1,11 @@
 pub mod Ended
+pub mod Ending
+pub mod Execution
 pub mod Input
+pub mod Midway
 pub mod Output
 pub mod Play
+pub mod Played
 pub mod Pooled
+pub mod Session
 pub mod Words

@@ -15,7 +15,8 @@ use Rattle.zc_prog.specs.Input.{WasRead, most_bytes}
 use Rattle.zc_prog.specs.Output.{IsReported}
 use Rattle.zc_prog.specs.Ended.{code_of, text_of}
 use Rattle.zc_prog.specs.Words.{task_of, name_in}
-use Rattle.zc_prog.specs.Pooled.{IsPooled, IsCreated, SurvivesLines, CreatesWhole, HoldsOfGiven}
+use Rattle.zc_prog.specs.Session.{WasCutShort}
+use Rattle.zc_prog.specs.Pooled.{IsPooled, IsCreated, CreatesWhole, HoldsOfGiven}
 
 -- the source and the shelf as a run finds or leaves them, with their counts of faults
 pub record Outside : Type 0 where
@@ -73,35 +74,35 @@ IsEnded old new None ended = IsUsage old new ended
 IsEnded old new (Some (Play name)) ended = IsCause old new name ended
 IsEnded old new (Some (Create name devices places)) ended = IsCreation old new name (record { devices = devices; places = places }) ended
 
--- A run came to an end that has its cause, and its text was reported with its status; or memory was wanting, and the
--- sink is as it was.
+-- ---- want of memory
+
+-- the disk set was handed back after some first part of a run of this script
+pub record IsScriptCutShort (old new : Outside) (name : List ℕ) (gave : Gave) : Type 0 where
+  pub script : List ℕ
+  pub read : WasRead old.left new.left script
+  pub good : first_bad (name ∷ []) (texts_of script) ≡ None
+  pub cut_short : WasCutShort gave.shape gave.tape (lines_in name script)
+
+-- No disk set was handed back; or the one that was went through some first part of what the words ask: of the script's run for `play`,
+-- which writes nothing where no pool stood; of the creation for `create`, which leaves the pool whole or not at all, and writes nothing
+-- where a root was open.
+abbrev pub IsStopped : Outside → Outside → Option Task → Type 0
+IsStopped old new None = HoldsOfGiven (λ gave. ⊥) old.stock new.stock []
+IsStopped old new (Some (Play name)) = HoldsOfGiven (IsScriptCutShort old new name) old.stock new.stock name
+IsStopped old new (Some (Create name devices places)) = HoldsOfGiven (CreatesWhole name) old.stock new.stock name
+
+-- ---- a run
+
+-- A run came to an end that has its cause, and its text was reported with its status; or memory was wanting, the sink is as it was, and
+-- what was done is some first part of what the words ask.
 abbrev pub IsRunOf : Option Task → Outside → Outside → Stream → Stream → ℕ → ℕ → ℕ → Type 0
 IsRunOf task old new taken taken_after write_faults write_faults_after code =
     ((ended : Ended) × IsEnded old new task ended × IsReported taken taken_after write_faults write_faults_after (text_of (name_in task) ended) (code_of ended) code)
-    ⊎ ((code ≡ 1) × Keeps taken taken_after)
+    ⊎ ((code ≡ 1) × Keeps taken taken_after × IsStopped old new task)
 
 -- the same of what the words ask
 abbrev pub IsRun : List (List ℕ) → Outside → Outside → Stream → Stream → ℕ → ℕ → ℕ → Type 0
 IsRun words = IsRunOf (task_of words)
-
--- ---- crashes
-
--- the disk set was handed back behind a run of this script
-pub record SurvivesScript (old new : Outside) (name : List ℕ) (gave : Gave) : Type 0 where
-  pub script : List ℕ
-  pub read : WasRead old.left new.left script
-  pub good : first_bad (name ∷ []) (texts_of script) ≡ None
-  pub survives : SurvivesLines (lines_in name script) gave
-
-abbrev pub SurvivesPlay : Outside → Outside → List ℕ → Type 0
-SurvivesPlay old new name = HoldsOfGiven (SurvivesScript old new name) old.stock new.stock name
-
--- No disk set was handed back, or the one that was survives a crash at any moment since it was handed out: with the script's run for
--- `play`, whole or not at all for `create`.
-abbrev pub SurvivesTask : Outside → Outside → Option Task → Type 0
-SurvivesTask old new None = HoldsOfGiven (λ gave. ⊥) old.stock new.stock []
-SurvivesTask old new (Some (Play name)) = SurvivesPlay old new name
-SurvivesTask old new (Some (Create name devices places)) = HoldsOfGiven (CreatesWhole name) old.stock new.stock name
 
 -- ---- completeness
 

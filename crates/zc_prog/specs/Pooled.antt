@@ -1,20 +1,16 @@
 -- What a run does to its pool on the shelf.
-use Rattle.std.specs.Prelude.{◌≡◌, ◌≢◌, ◌⊎◌, ℕ, ◌∷◌, ◌++◌, ◌&&◌, Bool, true, false, List, [], Err, IsTrue}
-use Rattle.zc_num.specs.Limits.{AreLimits}
+use Rattle.std.specs.Prelude.{◌≡◌, ◌≢◌, ◌⊎◌, ℕ, ◌∷◌, ◌++◌, ◌&&◌, Bool, true, false, List, [], IsTrue}
 use Rattle.zc_tape.specs.Cause.{Rose}
-use Rattle.zc_tape.specs.Tape.{Shape, Tape}
+use Rattle.zc_tape.specs.Tape.{Shape}
 use Rattle.zc_io.specs.Stock.{Stock, Gave, handed_out, handed_back, HandsBack, IsHere}
 use Rattle.zc_root.specs.declared.body.Body.{Body}
-use Rattle.zc_root.specs.Root.{IsRoot}
+use Rattle.zc_root.specs.Root.{IsOpenRoot}
 use Rattle.zc_layout.specs.Standing.{HasNoRoot}
-use Rattle.zc_damage.specs.declared.damage.Damage.{Damage}
 use Rattle.zc_script.specs.declared.act.Line.{Line}
-use Rattle.zc_state.specs.State.{State, StandsFor}
-use Rattle.zc_group.specs.Created.{IsFirst, LeavesFirst}
-use Rattle.zc_state.specs.Reading.{read_state}
+use Rattle.zc_group.specs.Created.{IsFirst, LeavesFirst, IsCreationWhole, WritesCreation}
+use Rattle.zc_group.specs.Imported.{StopsAtFailure}
 use Rattle.zc_group.specs.Rooted.{HasRootThere}
-use Rattle.zc_session.specs.Survives.{SurvivesRun}
-use Rattle.zc_session.specs.Session.{IsPlayed}
+use Rattle.zc_prog.specs.Session.{IsPlayed, WasCutShort, WasUnasked, HasDamage, HasNoPool, FailsImport, before_calls}
 use Rattle.zc_prog.specs.declared.ended.Ended.{Ended}
 use Rattle.zc_prog.specs.declared.ended.Ended.TheVariants.{Usage, ReadFault, TooLarge, BadLine, Missing, DiskFault, NoPool, Damaged, PoolExists, OtherSize, Played, Created}
 
@@ -35,11 +31,11 @@ GivesBack P old new name = (gave : Gave) × (gave.name ≡ name) × HandsBack ol
 abbrev pub HoldsOfGiven : (Gave → Type 0) → Stock → Stock → List ℕ → Type 0
 HoldsOfGiven P old new name = IsTrue old.told → (new.gives ≡ old.gives) ⊎ ((gave : Gave) × (gave.name ≡ name) × (new.gives ≡ old.gives ++ gave ∷ []) × P gave)
 
--- ---- a script on a pool
+-- no disk set is handed back, where the shelf tells that
+abbrev pub GivesNothing : Stock → Stock → Type 0
+GivesNothing old new = IsTrue old.told → new.gives ≡ old.gives
 
--- the disk set holds a pool of this damage
-abbrev pub HasDamage : Shape → Tape → Damage → Type 0
-HasDamage shape u damage = IsTrue u.told → (body : Body) × IsRoot u.start body × (read_state shape u.start body ≡ Err damage)
+-- ---- a script on a pool
 
 -- what a run of the lines on a disk set came to, by the set as it was handed back and by the counts of faults of the shelf
 abbrev pub IsPlayedAs : ℕ → ℕ → List ℕ → List Line → Ended → Gave → Type 0
@@ -51,10 +47,10 @@ IsPlayedAs before now name lines Missing gave = ⊥
 IsPlayedAs before now name lines PoolExists gave = ⊥
 IsPlayedAs before now name lines OtherSize gave = ⊥
 IsPlayedAs before now name lines (Created given) gave = ⊥
--- a call failed
-IsPlayedAs before now name lines DiskFault gave = Rose before now
+-- a call failed as the pool was taken up, and nothing was asked
+IsPlayedAs before now name lines DiskFault gave = FailsImport gave.shape gave.tape × WasUnasked gave.shape gave.tape
 -- the disk set holds no pool, or has the size of none; no call was made
-IsPlayedAs before now name lines NoPool gave = (gave.tape.calls ≡ []) × (IsTrue gave.tape.told → AreLimits gave.shape.devices gave.shape.places → HasNoRoot gave.tape.start)
+IsPlayedAs before now name lines NoPool gave = (gave.tape.calls ≡ []) × HasNoPool gave.shape gave.tape
 -- the pool is damaged; no call was made
 IsPlayedAs before now name lines (Damaged damage) gave = (gave.tape.calls ≡ []) × HasDamage gave.shape gave.tape damage
 -- the script was played on the pool that was found there; it was good where its last commit was done and the set was taken back
@@ -69,8 +65,8 @@ IsPooledWith old new name P = (gave : Gave) × IsHere old name true × IsReturn 
 abbrev pub IsPooled : Stock → Stock → ℕ → ℕ → List ℕ → List Line → Ended → Type 0
 -- the name isn't there, and nothing changed
 IsPooled old new before now name lines Missing = IsHere old name false × (IsTrue old.told → new ≡ old)
--- a call of the shelf or of the set failed, so the shelf's count of faults rose
-IsPooled old new before now name lines DiskFault = Rose before now
+-- The shelf's count of faults rose: the set couldn't be taken, and none was handed back; or its pool couldn't be taken up.
+IsPooled old new before now name lines DiskFault = Rose before now × (GivesNothing old new ⊎ IsPooledWith old new name (IsPlayedAs before now name lines DiskFault))
 IsPooled old new before now name lines Usage = ⊥
 IsPooled old new before now name lines ReadFault = ⊥
 IsPooled old new before now name lines TooLarge = ⊥
@@ -82,22 +78,31 @@ IsPooled old new before now name lines NoPool = IsPooledWith old new name (IsPla
 IsPooled old new before now name lines (Damaged damage) = IsPooledWith old new name (IsPlayedAs before now name lines (Damaged damage))
 IsPooled old new before now name lines (Played text good) = IsPooledWith old new name (IsPlayedAs before now name lines (Played text good))
 
--- a crash at any moment since a sound disk set was handed out leaves the files behind some first entries of the run's history, among which is
--- each commit that was answered by then
-abbrev pub SurvivesLines : List Line → Gave → Type 0
-SurvivesLines lines gave = IsTrue gave.tape.told → (s : State) → StandsFor gave.shape gave.tape.start s → SurvivesRun gave.shape gave.tape s lines
+-- the disk set went through some first part of a run of the lines
+abbrev pub WasStopped : List Line → Gave → Type 0
+WasStopped lines gave = WasCutShort gave.shape gave.tape lines
 
 -- ---- the creation of a pool
 
--- the tape before its calls
-abbrev pub before_calls : Tape → Tape
-before_calls u = record u { calls = [] }
+-- Where a root was open, nothing was written. Where there was none, what was written is a front of the calls of the creation, and a crash
+-- at any moment leaves no root, or the pool that was just made.
+pub record CreatesWhole (name : List ℕ) (gave : Gave) : Type 0 where
+  pub rooted : IsTrue gave.tape.told → (body : Body) → IsOpenRoot gave.tape.start body → gave.tape.calls ≡ []
+  pub writes : IsTrue gave.tape.told → HasNoRoot gave.tape.start → WritesCreation gave.shape name (before_calls gave.tape) gave.tape
+  pub leaves : IsTrue gave.tape.told → HasNoRoot gave.tape.start → LeavesFirst gave.shape name (before_calls gave.tape) gave.tape
 
 -- the pool is there, on a set of the size that was asked, which had no root
 pub record IsMadePool (shape : Shape) (name : List ℕ) (gave : Gave) : Type 0 where
   pub shape_is : gave.shape ≡ shape
   pub none : IsTrue gave.tape.told → HasNoRoot gave.tape.start
   pub first : IsTrue gave.tape.told → IsFirst gave.shape name gave.tape
+  pub calls : IsTrue gave.tape.told → IsCreationWhole gave.shape name (before_calls gave.tape) gave.tape
+  pub whole : CreatesWhole name gave
+
+-- A call failed as the pool was made: the last of those that were made, if any was.
+pub record FailsCreation (name : List ℕ) (gave : Gave) : Type 0 where
+  pub stops : IsTrue gave.tape.told → StopsAtFailure (before_calls gave.tape) gave.tape
+  pub whole : CreatesWhole name gave
 
 -- what the creation of a pool on a disk set came to
 abbrev pub IsMadeAs : ℕ → ℕ → List ℕ → Shape → Ended → Gave → Type 0
@@ -109,7 +114,7 @@ IsMadeAs before now name shape Missing gave = ⊥
 IsMadeAs before now name shape NoPool gave = ⊥
 IsMadeAs before now name shape (Damaged damage) gave = ⊥
 IsMadeAs before now name shape (Played text given) gave = ⊥
-IsMadeAs before now name shape DiskFault gave = Rose before now
+IsMadeAs before now name shape DiskFault gave = FailsCreation name gave
 -- an open root is there; no call was made
 IsMadeAs before now name shape PoolExists gave = (gave.tape.calls ≡ []) × (IsTrue gave.tape.told → HasRootThere gave.shape gave.tape.start)
 -- the set has another size, and no open root is there; no call was made
@@ -130,11 +135,7 @@ IsCreated old new before now name shape Missing = ⊥
 IsCreated old new before now name shape NoPool = ⊥
 IsCreated old new before now name shape (Damaged damage) = ⊥
 IsCreated old new before now name shape (Played text given) = ⊥
-IsCreated old new before now name shape DiskFault = Rose before now
+IsCreated old new before now name shape DiskFault = Rose before now × (GivesNothing old new ⊎ IsCreatedWith old new name (IsMadeAs before now name shape DiskFault))
 IsCreated old new before now name shape PoolExists = IsCreatedWith old new name (IsMadeAs before now name shape PoolExists)
 IsCreated old new before now name shape OtherSize = IsCreatedWith old new name (IsMadeAs before now name shape OtherSize)
 IsCreated old new before now name shape (Created given) = IsCreatedWith old new name (IsMadeAs before now name shape (Created given))
-
--- a crash at any moment since a disk set without a root was handed out leaves no root, or the pool that was just made
-abbrev pub CreatesWhole : List ℕ → Gave → Type 0
-CreatesWhole name gave = IsTrue gave.tape.told → HasNoRoot gave.tape.start → LeavesFirst gave.shape name (before_calls gave.tape) gave.tape

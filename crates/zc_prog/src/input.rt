@@ -1,7 +1,7 @@
 // The script, read from its source.
 ghost use Rattle.std.specs.Prelude.{◌≡◌, ◌+◌, ◌-◌, ◌≤◌, ◌<◌, ◌++◌, [], length, take, vec_len, IfOk, IfErr, OnOk, OnErr, IsErrOf, IsTrue};
 ghost use Rattle.zc_tape.specs.Cause.{Rose};
-ghost use Rattle.zc_io.specs.Stream.{Gives};
+ghost use Rattle.zc_io.specs.Stream.{GivesFront};
 ghost use Rattle.zc_prog.specs.Input.{WasRead, most_bytes};
 
 use std::alloc::{AllocError, Global};
@@ -35,7 +35,7 @@ fn read_piece<S: Source>(
     ensures few { OnOk result (vec_len script.new ≤ most_bytes + 1) }
     ensures grows { IfOk result (λ n. vec_len script.new ≡ vec_len script.old + n) }
     ensures told { (S.left source.new).told ≡ (S.left source.old).told }
-    ensures given { IfOk result (λ n. Gives (S.left source.old) (S.left source.new) (take n piece.new)) }
+    ensures given { IfOk result (λ n. GivesFront (S.left source.old) (S.left source.new) (take n piece.new)) }
     ensures added { IfOk result (λ n. script.new.items ≡ script.old.items ++ take n piece.new) }
     ensures end { IfOk result (λ n. n ≡ 0 → IsTrue (S.left source.old).told → (S.left source.old).bytes ≡ []) }
     ensures later { S.faults source.old ≤ S.faults source.new }

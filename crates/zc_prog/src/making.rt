@@ -5,11 +5,12 @@ ghost use Rattle.zc_num.specs.Limits.{AreLimits};
 ghost use Rattle.zc_tape.specs.Tape.{Shape};
 ghost use Rattle.zc_tape.specs.Cause.{Rose};
 ghost use Rattle.zc_tape.specs.Crash.{reads};
-ghost use Rattle.zc_io.specs.Stock.{IsFresh, IsHere};
+ghost use Rattle.zc_io.specs.Stock.{IsUncalled, IsHere};
 ghost use Rattle.zc_root.specs.Root.{IsOpenRoot, HasWholeRoots};
 ghost use Rattle.zc_root.specs.declared.body.Body.{Body as BodyOf};
 ghost use Rattle.zc_layout.specs.Standing.{HasNoRoot};
-ghost use Rattle.zc_group.specs.Created.{HoldsNothing, LeavesFirst, IsFirst};
+ghost use Rattle.zc_group.specs.Created.{HoldsNothing, LeavesFirst, IsFirst, IsCreationWhole, WritesCreation};
+ghost use Rattle.zc_group.specs.Imported.{StopsAtFailure};
 ghost use Rattle.zc_prog.specs.Ended.{MakesAs, LooksAs};
 ghost use Rattle.zc_prog.specs.Pooled.{IsAllBack, GivesBack, HoldsOfGiven, IsMadeAs, IsCreated, CreatesWhole};
 
@@ -33,6 +34,11 @@ fn create_on<D: DiskSet>(alloc: Global, disks: D, name: &Name) -> (D, Result<(),
     ensures exists { IsErrOf result.1 CreateFault.PoolExists → IsTrue (D.tape disks).told → HasWholeRoots (D.tape disks)
         → (body : BodyOf) × IsOpenRoot (reads (D.tape disks)) body }
     ensures kept { IsErrOf result.1 CreateFault.PoolExists → D.tape result.0 ≡ D.tape disks }
+    ensures rooted { (body : BodyOf) → IsTrue (D.tape disks).told → HasWholeRoots (D.tape disks) → IsOpenRoot (reads (D.tape disks)) body
+        → D.tape result.0 ≡ D.tape disks }
+    ensures written { OnOk result.1 (HoldsNothing (D.tape disks) → IsCreationWhole (D.shape disks) name.now (D.tape disks) (D.tape result.0)) }
+    ensures begun { HoldsNothing (D.tape disks) → WritesCreation (D.shape disks) name.now (D.tape disks) (D.tape result.0) }
+    ensures stops { IsErrOf result.1 CreateFault.Failed → IsTrue (D.tape disks).told → StopsAtFailure (D.tape disks) (D.tape result.0) }
     ensures later { D.faults disks ≤ D.faults result.0 }
     ensures cause { IsErrOf result.1 CreateFault.Failed → Rose (D.faults disks) (D.faults result.0) }
 {
@@ -55,7 +61,7 @@ fn ended_of(created: Result<(), CreateFault>, given: bool) -> Result<Ended, NoMe
 }
 
 // Makes the pool on a disk set that was handed out, and hands it back.
-#[tactic(auto, using(crate::proofs::CreatedLaws::made_as, crate::proofs::CreatedLaws::creates_as))]
+#[tactic(auto, using(crate::proofs::CreatedLaws::made_as))]
 fn make_on<H: Shelf>(
     alloc: Global,
     shelf: &mut H,
@@ -63,10 +69,11 @@ fn make_on<H: Shelf>(
     name: &Name,
 ) -> Result<Ended, NoMemory>
     requires limits { AreLimits (H.Disk.shape disks).devices (H.Disk.shape disks).places }
-    requires fresh { IsFresh (H.Disk.tape disks) (H.Disk.faults disks) }
+    requires fresh { IsUncalled (H.Disk.tape disks) (H.Disk.faults disks) }
     ensures told { (H.stock shelf.new).told ≡ (H.stock shelf.old).told }
     ensures made { IfOk result (λ ended. GivesBack (IsMadeAs (H.faults shelf.old) (H.faults shelf.new) name.now (H.Disk.shape disks) ended)
         (H.stock shelf.old) (H.stock shelf.new) name.now) }
+    ensures failed { IfOk result (λ ended. ended ≡ Ended.DiskFault → Rose (H.faults shelf.old) (H.faults shelf.new)) }
     ensures whole { GivesBack (CreatesWhole name.now) (H.stock shelf.old) (H.stock shelf.new) name.now }
     ensures later { H.faults shelf.old ≤ H.faults shelf.new }
 {
@@ -87,12 +94,13 @@ fn ended_by_look(found: Result<bool, Failed>) -> Ended
 }
 
 // Whether a disk set of another size holds a pool; it is handed back as it was.
-#[tactic(auto, using(crate::proofs::CreatedLaws::looked_as, crate::proofs::CreatedLaws::untouched_as))]
+#[tactic(auto, using(crate::proofs::CreatedLaws::looked_as, crate::proofs::CreatedLaws::look_failed, crate::proofs::CreatedLaws::untouched_as))]
 fn look_at<H: Shelf>(shelf: &mut H, disks: H::Disk, name: &Name) -> Ended
-    requires fresh { IsFresh (H.Disk.tape disks) (H.Disk.faults disks) }
+    requires fresh { IsUncalled (H.Disk.tape disks) (H.Disk.faults disks) }
     ensures told { (H.stock shelf.new).told ≡ (H.stock shelf.old).told }
     ensures made { (shape : Shape) → (H.Disk.shape disks ≢ shape) → GivesBack (IsMadeAs (H.faults shelf.old) (H.faults shelf.new) name.now shape result)
         (H.stock shelf.old) (H.stock shelf.new) name.now }
+    ensures failed { result ≡ Ended.DiskFault → Rose (H.faults shelf.old) (H.faults shelf.new) }
     ensures whole { GivesBack (CreatesWhole name.now) (H.stock shelf.old) (H.stock shelf.new) name.now }
     ensures later { H.faults shelf.old ≤ H.faults shelf.new }
 {
@@ -113,10 +121,11 @@ fn make_on_taken<H: Shelf>(
     places: u32,
 ) -> Result<Ended, NoMemory>
     requires limits { AreLimits devices places }
-    requires fresh { IsFresh (H.Disk.tape disks) (H.Disk.faults disks) }
+    requires fresh { IsUncalled (H.Disk.tape disks) (H.Disk.faults disks) }
     ensures told { (H.stock shelf.new).told ≡ (H.stock shelf.old).told }
     ensures made { IfOk result (λ ended. GivesBack (IsMadeAs (H.faults shelf.old) (H.faults shelf.new) name.now (record { devices = devices; places = places }) ended)
         (H.stock shelf.old) (H.stock shelf.new) name.now) }
+    ensures failed { IfOk result (λ ended. ended ≡ Ended.DiskFault → Rose (H.faults shelf.old) (H.faults shelf.new)) }
     ensures whole { GivesBack (CreatesWhole name.now) (H.stock shelf.old) (H.stock shelf.new) name.now }
     ensures later { H.faults shelf.old ≤ H.faults shelf.new }
 {
@@ -130,7 +139,7 @@ fn make_on_taken<H: Shelf>(
 }
 
 // Makes the disk set of a name that isn't there, and the pool on it.
-#[tactic(auto, using(crate::proofs::CreatedLaws::created, crate::proofs::Outcome::all_back, crate::proofs::Outcome::holds_of_given, crate::proofs::Outcome::none_given, crate::proofs::Outcome::none_out))]
+#[tactic(auto, using(crate::proofs::CreatedLaws::created, crate::proofs::CreatedLaws::not_made, crate::proofs::Outcome::all_back, crate::proofs::Outcome::holds_of_given, crate::proofs::Outcome::none_given, crate::proofs::Outcome::none_out))]
 fn make_anew<H: Shelf>(
     alloc: Global,
     shelf: &mut H,
@@ -160,7 +169,7 @@ fn make_anew<H: Shelf>(
 ///
 /// # Errors
 /// Want of memory.
-#[tactic(auto, using(crate::proofs::CreatedLaws::created, crate::proofs::CreatedLaws::created_same, crate::proofs::CreatedLaws::back_same, crate::proofs::CreatedLaws::holds_same, crate::proofs::Outcome::all_back, crate::proofs::Outcome::holds_of_given, crate::proofs::Outcome::none_given, crate::proofs::Outcome::none_out))]
+#[tactic(auto, using(crate::proofs::CreatedLaws::created, crate::proofs::CreatedLaws::not_made, crate::proofs::CreatedLaws::created_same, crate::proofs::CreatedLaws::back_same, crate::proofs::CreatedLaws::holds_same, crate::proofs::Outcome::all_back, crate::proofs::Outcome::holds_of_given, crate::proofs::Outcome::none_given, crate::proofs::Outcome::none_out))]
 pub fn make_pool<H: Shelf>(
     alloc: Global,
     shelf: &mut H,

@@ -1,16 +1,17 @@
 // A script's lines, played on the pool of a name: taken, played on, and given back.
-ghost use Rattle.std.specs.Prelude.{◌≡◌, ◌^◌, ◌<◌, ◌≤◌, length, IfOk};
-ghost use Rattle.zc_io.specs.Stock.{IsFresh};
-ghost use Rattle.zc_session.specs.Session.{AreActs};
+ghost use Rattle.std.specs.Prelude.{◌≡◌, ◌≤◌, IfOk};
+ghost use Rattle.zc_tape.specs.Cause.{Rose};
+ghost use Rattle.zc_io.specs.Stock.{IsUncalled};
+ghost use Rattle.zc_prog.specs.Session.{AreActs};
 ghost use Rattle.zc_prog.specs.Ended.{EndsAs};
-ghost use Rattle.zc_prog.specs.Pooled.{IsAllBack, GivesBack, HoldsOfGiven, IsPlayedAs, IsPooled, SurvivesLines};
+ghost use Rattle.zc_prog.specs.Pooled.{IsAllBack, GivesBack, HoldsOfGiven, IsPlayedAs, IsPooled, WasStopped};
 
 use crate::ended::Ended;
+use crate::{Played, SessionFault, play_on};
 use std::alloc::{AllocError, Global};
 use zc_io::{Shelf, ShelfFault};
 use zc_num::{Bytes, Listed, Name, NoMemory};
 use zc_script::Line;
-use zc_session::{Played, SessionFault, play_on};
 
 // What a run came to, once its disk set was handed back.
 fn ended_of(played: Result<Played, SessionFault>, given: bool) -> Result<Ended, NoMemory>
@@ -29,7 +30,7 @@ fn ended_of(played: Result<Played, SessionFault>, given: bool) -> Result<Ended, 
 }
 
 // Plays lines on a disk set that was handed out, and hands it back.
-#[tactic(auto, using(crate::proofs::Outcome::played_as, crate::proofs::Outcome::survives_as))]
+#[tactic(auto, using(crate::proofs::Outcome::played_as, crate::proofs::Outcome::stopped_as))]
 fn play_taken<H: Shelf>(
     alloc: Global,
     shelf: &mut H,
@@ -38,12 +39,12 @@ fn play_taken<H: Shelf>(
     lines: Listed<Line>,
 ) -> Result<Ended, NoMemory>
     requires acts { AreActs lines }
-    requires few { length lines < 2 ^ 32 }
-    requires fresh { IsFresh (H.Disk.tape disks) (H.Disk.faults disks) }
+    requires fresh { IsUncalled (H.Disk.tape disks) (H.Disk.faults disks) }
     ensures told { (H.stock shelf.new).told ≡ (H.stock shelf.old).told }
     ensures played { IfOk result (λ ended. GivesBack (IsPlayedAs (H.faults shelf.old) (H.faults shelf.new) name.now lines ended)
         (H.stock shelf.old) (H.stock shelf.new) name.now) }
-    ensures survives { GivesBack (SurvivesLines lines) (H.stock shelf.old) (H.stock shelf.new) name.now }
+    ensures failed { IfOk result (λ ended. ended ≡ Ended.DiskFault → Rose (H.faults shelf.old) (H.faults shelf.new)) }
+    ensures stopped { GivesBack (WasStopped lines) (H.stock shelf.old) (H.stock shelf.new) name.now }
     ensures later { H.faults shelf.old ≤ H.faults shelf.new }
 {
     let (disks, played) = play_on(alloc, disks, name.bytes(), lines);
@@ -55,7 +56,7 @@ fn play_taken<H: Shelf>(
 ///
 /// # Errors
 /// Want of memory.
-#[tactic(auto, using(crate::proofs::Outcome::pooled, crate::proofs::Outcome::all_back, crate::proofs::Outcome::holds_of_given, crate::proofs::Outcome::none_given, crate::proofs::Outcome::none_out))]
+#[tactic(auto, using(crate::proofs::Outcome::pooled, crate::proofs::Outcome::not_taken, crate::proofs::Outcome::all_back, crate::proofs::Outcome::holds_of_given, crate::proofs::Outcome::none_given, crate::proofs::Outcome::none_out))]
 pub fn play_pool<H: Shelf>(
     alloc: Global,
     shelf: &mut H,
@@ -63,11 +64,10 @@ pub fn play_pool<H: Shelf>(
     lines: Listed<Line>,
 ) -> Result<Ended, NoMemory>
     requires acts { AreActs lines }
-    requires few { length lines < 2 ^ 32 }
     ensures told { (H.stock shelf.new).told ≡ (H.stock shelf.old).told }
     ensures pooled { IfOk result (IsPooled (H.stock shelf.old) (H.stock shelf.new) (H.faults shelf.old) (H.faults shelf.new) name.now lines) }
     ensures given_back { IsAllBack (H.stock shelf.old) (H.stock shelf.new) }
-    ensures survives { HoldsOfGiven (SurvivesLines lines) (H.stock shelf.old) (H.stock shelf.new) name.now }
+    ensures stopped { HoldsOfGiven (WasStopped lines) (H.stock shelf.old) (H.stock shelf.new) name.now }
     ensures later { H.faults shelf.old ≤ H.faults shelf.new }
 {
     match shelf.take(name) {

@@ -56,13 +56,13 @@ spelled_is_of pools line act s =
     (found_of pools s.pool s.command (pool_at pools s.pool) refl (spelled_has_line line s.pool s.command s.spelled))
 
 -- what came where a test failed
-behind_no : {A : Type 0} (test : Bool) (o : Option A) (y : A) → cond test None o ≡ Some y → o ≡ Some y
-behind_no true o y h = cc h
-behind_no false o y h = h
+after_no : {A : Type 0} (test : Bool) (o : Option A) (y : A) → cond test None o ≡ Some y → o ≡ Some y
+after_no true o y h = cc h
+after_no false o y h = h
 
 -- An act that a line asks for is of the pools.
 pub said_act : (pools : List (List ℕ)) (text : List ℕ) (act : Act) → said pools text ≡ Some (Does act) → IsActOf pools act
-said_act pools text act h = spelled_is_of pools text act (read_is_spelled pools text (Does act) (behind_no (is_ignored text) (said_of pools text) (Does act) h))
+said_act pools text act h = spelled_is_of pools text act (read_is_spelled pools text (Does act) (after_no (is_ignored text) (said_of pools text) (Does act) h))
 
 -- one line more
 with_of : (pools : List (List ℕ)) (session n : ℕ) (o : Option Said) (lines : List Line) → ((act : Act) → o ≡ Some (Does act) → IsActOf pools act)

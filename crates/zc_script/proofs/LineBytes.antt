@@ -30,6 +30,6 @@ all_weaker test weaker implies (byte ∷ bytes) all =
     let parts = and_parts (test byte) (list_all test bytes) all in
     and_from (weaker byte) (list_all weaker bytes) (implies byte parts.0) (all_weaker test weaker implies bytes parts.1)
 
--- two texts that pass, one behind the other
+-- two texts that pass, one after the other
 pub all_append : (test : ℕ → Bool) (front back : List ℕ) → list_all test front ≡ true → list_all test back ≡ true → list_all test (front ++ back) ≡ true
 all_append test front back one two = list_all-append test front back ∙ and_from (list_all test front) (list_all test back) one two

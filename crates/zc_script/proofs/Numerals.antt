@@ -97,7 +97,7 @@ leading_zeros (c ∷ d ∷ cs) digits some small =
     (0, sym (decimal-digits_value decimal_digits (c ∷ d ∷ cs) digits (omega arith) (λ h. absurd (other h)) small)))
     (cases_eq c 48)
 
--- a numeral is its number without leading zeros, behind zeros
+-- a numeral is its number without leading zeros, after zeros
 pub numeral_is_decimal : (text : List ℕ) (number : ℕ) → IsNumeral text number → (zeros : ℕ) × (text ≡ replicate zeros 48 ++ decimal number)
 numeral_is_decimal text number h =
     let small : digits_value 10 text < 2 ^ 64 = omega (arith, h.small, h.value) in

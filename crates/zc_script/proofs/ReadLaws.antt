@@ -220,7 +220,7 @@ session_said_is line words spoken text h =
     subst (λ (s : Spoken). SpellsSpoken line s) is_spoken
     (record { number = word.0; number_is = number.0; few = number.1; spelled = rw is_words at text })
 
--- a dataset's path behind the word of a form
+-- a dataset's path after the word of a form
 of_dataset_form : (f : DatasetForm) (line pool dataset path : List ℕ) → IsDatasetPath path pool dataset → line ≡ join_with_byte 32 (dataset_word f ∷ path ∷ []) → SpellsCommand line pool (dataset_command f dataset)
 of_dataset_form Mkds line pool dataset path path_is text = record { path = path; path_is = path_is; spelled = text }
 of_dataset_form Rmds line pool dataset path path_is text = record { path = path; path_is = path_is; spelled = text }
@@ -236,7 +236,7 @@ dataset_is f line words spoken text h =
     subst (λ (s : Spoken). SpellsSpoken line s) is_spoken
     (of_dataset_form f line path.0.0 path.0.1 word.0 (dataset_path_is word.0 path.0 path.1) (rw is_words at text))
 
--- a file's path behind the word of a form
+-- a file's path after the word of a form
 of_file_form : (f : FileForm) (line pool dataset file path : List ℕ) → IsFilePath path pool dataset file → line ≡ join_with_byte 32 (file_word f ∷ path ∷ []) → SpellsCommand line pool (file_command f dataset file)
 of_file_form Create line pool dataset file path path_is text = record { path = path; path_is = path_is; spelled = text }
 of_file_form Remove line pool dataset file path path_is text = record { path = path; path_is = path_is; spelled = text }

@@ -185,19 +185,19 @@ form_word_bytes form.Truncate = refl
 form_word_bytes form.Read = refl
 form_word_bytes form.Commit = refl
 
--- the words of a word and what stands behind it
-words_behind : (word rest : List ℕ) (words : List (List ℕ)) → list_all is_word_byte word ≡ true → pieces_between 32 rest ≡ words → pieces_between 32 (word ++ 32 ∷ rest) ≡ word ∷ words
-words_behind word rest words in_word behind =
+-- the words of a word and what stands after it
+words_after : (word rest : List ℕ) (words : List (List ℕ)) → list_all is_word_byte word ≡ true → pieces_between 32 rest ≡ words → pieces_between 32 (word ++ 32 ∷ rest) ≡ word ∷ words
+words_after word rest words in_word behind =
     pieces_before 32 word rest (lacks_space word in_word) ∙ ap (λ (p : List (List ℕ)). word ∷ p) behind
 
 one_word : (word : List ℕ) → list_all is_word_byte word ≡ true → pieces_between 32 word ≡ word ∷ []
 one_word word in_word = pieces_lacking 32 word (lacks_space word in_word)
 
--- a line of a form with these words behind
+-- a line of a form with these words after
 line_of_form : (f : Form) (line rest : List ℕ) (words : List (List ℕ)) → line ≡ form_word f ++ 32 ∷ rest → pieces_between 32 rest ≡ words → spoken_of line ≡ spoken_of_form f words
 line_of_form f line rest words spelled behind =
     spoken_of_parts line (form_word f) words f
-    (ap (pieces_between 32) spelled ∙ words_behind (form_word f) rest words (form_word_bytes f) behind) (form_read f)
+    (ap (pieces_between 32) spelled ∙ words_after (form_word f) rest words (form_word_bytes f) behind) (form_read f)
 
 session_line_read : (line : List ℕ) (session : ℕ) → SpellsSession line session → spoken_of line ≡ Some (InSession session)
 unfolding session_spoken
@@ -220,32 +220,32 @@ file_read f line path pool dataset file path_is spelled =
 write_read : (line pool dataset file : List ℕ) (offset : ℕ) (bytes : List ℕ) → SpellsWrite line pool dataset file offset bytes → spoken_of line ≡ Some (Asks pool (Write dataset file offset bytes))
 unfolding write_spoken
 write_read line pool dataset file offset bytes s =
-    let last = words_behind s.from s.digits (s.digits ∷ []) (numeral_word s.from offset s.from_is) (one_word s.digits (hex_word s.digits bytes s.digits_are)) in
-    let all = words_behind s.path (s.from ++ 32 ∷ s.digits) (s.from ∷ s.digits ∷ []) (file_path_word s.path pool dataset file s.path_is) last in
+    let last = words_after s.from s.digits (s.digits ∷ []) (numeral_word s.from offset s.from_is) (one_word s.digits (hex_word s.digits bytes s.digits_are)) in
+    let all = words_after s.path (s.from ++ 32 ∷ s.digits) (s.from ∷ s.digits ∷ []) (file_path_word s.path pool dataset file s.path_is) last in
     line_of_form form.Write line (s.path ++ 32 ∷ (s.from ++ 32 ∷ s.digits)) (s.path ∷ s.from ∷ s.digits ∷ []) s.spelled all
     ∙ rw (file_path_read s.path pool dataset file s.path_is, number_read s.from offset s.from_is, bytes_read s.digits bytes s.digits_are)
 
 fill_read : (line pool dataset file : List ℕ) (offset len byte : ℕ) → SpellsFill line pool dataset file offset len byte → spoken_of line ≡ Some (Asks pool (Fill dataset file offset len byte))
 unfolding fill_spoken
 fill_read line pool dataset file offset len byte s =
-    let last = words_behind s.count s.value (s.value ∷ []) (numeral_word s.count len s.count_is) (one_word s.value (numeral_word s.value byte s.value_is)) in
-    let next = words_behind s.from (s.count ++ 32 ∷ s.value) (s.count ∷ s.value ∷ []) (numeral_word s.from offset s.from_is) last in
-    let all = words_behind s.path (s.from ++ 32 ∷ (s.count ++ 32 ∷ s.value)) (s.from ∷ s.count ∷ s.value ∷ []) (file_path_word s.path pool dataset file s.path_is) next in
+    let last = words_after s.count s.value (s.value ∷ []) (numeral_word s.count len s.count_is) (one_word s.value (numeral_word s.value byte s.value_is)) in
+    let next = words_after s.from (s.count ++ 32 ∷ s.value) (s.count ∷ s.value ∷ []) (numeral_word s.from offset s.from_is) last in
+    let all = words_after s.path (s.from ++ 32 ∷ (s.count ++ 32 ∷ s.value)) (s.from ∷ s.count ∷ s.value ∷ []) (file_path_word s.path pool dataset file s.path_is) next in
     line_of_form form.Fill line (s.path ++ 32 ∷ (s.from ++ 32 ∷ (s.count ++ 32 ∷ s.value))) (s.path ∷ s.from ∷ s.count ∷ s.value ∷ []) s.spelled all
     ∙ rw (file_path_read s.path pool dataset file s.path_is, number_read s.from offset s.from_is, number_read s.count len s.count_is, byte_read s.value byte s.value_is s.is_byte)
 
 truncate_read : (line pool dataset file : List ℕ) (size : ℕ) → SpellsTruncate line pool dataset file size → spoken_of line ≡ Some (Asks pool (Truncate dataset file size))
 unfolding truncate_spoken
 truncate_read line pool dataset file size s =
-    let all = words_behind s.path s.number (s.number ∷ []) (file_path_word s.path pool dataset file s.path_is) (one_word s.number (numeral_word s.number size s.number_is)) in
+    let all = words_after s.path s.number (s.number ∷ []) (file_path_word s.path pool dataset file s.path_is) (one_word s.number (numeral_word s.number size s.number_is)) in
     line_of_form form.Truncate line (s.path ++ 32 ∷ s.number) (s.path ∷ s.number ∷ []) s.spelled all
     ∙ rw (file_path_read s.path pool dataset file s.path_is, number_read s.number size s.number_is)
 
 read_read : (line pool dataset file : List ℕ) (offset len : ℕ) → SpellsRead line pool dataset file offset len → spoken_of line ≡ Some (Asks pool (Read dataset file offset len))
 unfolding read_spoken
 read_read line pool dataset file offset len s =
-    let last = words_behind s.from s.count (s.count ∷ []) (numeral_word s.from offset s.from_is) (one_word s.count (numeral_word s.count len s.count_is)) in
-    let all = words_behind s.path (s.from ++ 32 ∷ s.count) (s.from ∷ s.count ∷ []) (file_path_word s.path pool dataset file s.path_is) last in
+    let last = words_after s.from s.count (s.count ∷ []) (numeral_word s.from offset s.from_is) (one_word s.count (numeral_word s.count len s.count_is)) in
+    let all = words_after s.path (s.from ++ 32 ∷ s.count) (s.from ∷ s.count ∷ []) (file_path_word s.path pool dataset file s.path_is) last in
     line_of_form form.Read line (s.path ++ 32 ∷ (s.from ++ 32 ∷ s.count)) (s.path ∷ s.from ∷ s.count ∷ []) s.spelled all
     ∙ rw (file_path_read s.path pool dataset file s.path_is, number_read s.from offset s.from_is, number_read s.count len s.count_is)
 
@@ -391,7 +391,7 @@ printed_session_is_read pools session few =
 
 -- ---- the bytes of lines
 
--- a word and what stands behind it
+-- a word and what stands after it
 line_of_words : (front back : List ℕ) → list_all is_word_byte front ≡ true → list_all is_line_byte back ≡ true → list_all is_line_byte (front ++ back) ≡ true
 line_of_words front back in_word in_line =
     all_append is_line_byte front back (all_weaker is_word_byte is_line_byte word_byte_in_line front in_word) in_line

@@ -1,6 +1,6 @@
 -- What a line of a script says: the table of its forms.
 --
--- A line is words with one space between. Its first word says the form, and the form says of what kinds the words behind it are:
+-- A line is words with one space between. Its first word says the form, and the form says of what kinds the words after it are:
 --
 --     session                   N
 --     mkds, rmds, mount         P/D
@@ -63,28 +63,28 @@ file_command Create dataset file = command.Create dataset file
 file_command Remove dataset file = command.Remove dataset file
 file_command Stat dataset file = command.Stat dataset file
 
--- `N` behind `session`
+-- `N` after `session`
 unfoldable pub session_spoken : List (List ℕ) → Option Spoken
 session_spoken words = do
   word ← one_of words
   session ← session_of word
   Some (InSession session)
 
--- `P/D` behind the word of a form on a dataset
+-- `P/D` after the word of a form on a dataset
 unfoldable pub dataset_spoken : DatasetForm → List (List ℕ) → Option Spoken
 dataset_spoken form words = do
   word ← one_of words
   path ← dataset_path word
   Some (Asks path.0 (dataset_command form path.1))
 
--- `P/D/F` behind the word of a form on a file
+-- `P/D/F` after the word of a form on a file
 unfoldable pub file_spoken : FileForm → List (List ℕ) → Option Spoken
 file_spoken form words = do
   word ← one_of words
   path ← file_path word
   Some (Asks path.0 (file_command form path.1 path.2))
 
--- `P/D/F FROM HEX` behind `write`
+-- `P/D/F FROM HEX` after `write`
 unfoldable pub write_spoken : List (List ℕ) → Option Spoken
 write_spoken words = do
   three ← three_of words
@@ -93,7 +93,7 @@ write_spoken words = do
   bytes ← bytes_of three.2
   Some (Asks path.0 (command.Write path.1 path.2 from bytes))
 
--- `P/D/F FROM LEN BYTE` behind `fill`
+-- `P/D/F FROM LEN BYTE` after `fill`
 unfoldable pub fill_spoken : List (List ℕ) → Option Spoken
 fill_spoken words = do
   four ← four_of words
@@ -103,7 +103,7 @@ fill_spoken words = do
   byte ← byte_of four.3
   Some (Asks path.0 (command.Fill path.1 path.2 from count byte))
 
--- `P/D/F SIZE` behind `truncate`
+-- `P/D/F SIZE` after `truncate`
 unfoldable pub truncate_spoken : List (List ℕ) → Option Spoken
 truncate_spoken words = do
   two ← two_of words
@@ -111,7 +111,7 @@ truncate_spoken words = do
   size ← number_of two.1
   Some (Asks path.0 (command.Truncate path.1 path.2 size))
 
--- `P/D/F FROM LEN` behind `read`
+-- `P/D/F FROM LEN` after `read`
 unfoldable pub read_spoken : List (List ℕ) → Option Spoken
 read_spoken words = do
   three ← three_of words
@@ -120,13 +120,13 @@ read_spoken words = do
   count ← number_of three.2
   Some (Asks path.0 (command.Read path.1 path.2 from count))
 
--- `P` behind `commit`
+-- `P` after `commit`
 unfoldable pub commit_spoken : List (List ℕ) → Option Spoken
 commit_spoken words = do
   word ← one_of words
   only_if (is_pool_name word) (Asks word command.Commit)
 
--- what the words behind the first say in a line of the form
+-- what the words after the first say in a line of the form
 abbrev pub spoken_of_form : Form → List (List ℕ) → Option Spoken
 spoken_of_form form.Session words = session_spoken words
 spoken_of_form (form.OnDataset form) words = dataset_spoken form words

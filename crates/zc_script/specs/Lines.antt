@@ -28,7 +28,7 @@ said pools text = if is_ignored text then None else said_of pools text
 abbrev pub is_bad : List (List ℕ) → List ℕ → Bool
 is_bad pools text = not (is_ignored text) && is_none (said_of pools text)
 
--- the session of the lines behind one that says this and stands in the session
+-- the session of the lines after one that says this and stands in the session
 abbrev pub next_session : ℕ → Option Said → ℕ
 next_session session None = session
 next_session session (Some (Session next)) = next

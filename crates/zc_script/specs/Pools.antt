@@ -8,7 +8,7 @@ use Rattle.zc_command.specs.Names.{is_lower, is_digit}
 abbrev pub only_if : {A : Type 0} → Bool → A → Option A
 only_if test value = if test then Some value else None
 
--- what may stand in a pool's name behind its first byte
+-- what may stand in a pool's name after its first byte
 abbrev pub is_pool_byte : ℕ → Bool
 is_pool_byte byte = is_lower byte || (is_digit byte || byte == 95)
 

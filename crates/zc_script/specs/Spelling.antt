@@ -47,13 +47,13 @@ pub record SpellsSession (line : List ℕ) (session : ℕ) : Type 0 where
   pub few : session ≤ 15
   pub spelled : line ≡ codes "session " ++ number
 
--- a word with the space behind it, as `mkds `, and `P/D`
+-- a word with the space after it, as `mkds `, and `P/D`
 pub record SpellsDataset (word line pool dataset : List ℕ) : Type 0 where
   pub path : List ℕ
   pub path_is : IsDatasetPath path pool dataset
   pub spelled : line ≡ word ++ path
 
--- a word with the space behind it, as `create `, and `P/D/F`
+-- a word with the space after it, as `create `, and `P/D/F`
 pub record SpellsFile (word line pool dataset file : List ℕ) : Type 0 where
   pub path : List ℕ
   pub path_is : IsFilePath path pool dataset file

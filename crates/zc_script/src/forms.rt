@@ -9,7 +9,7 @@ ghost use Rattle.zc_script.specs.Spelling.{Spells};
 
 use crate::act::{Act, Said};
 use crate::paths::{dataset_path, file_path};
-use crate::pieces::{cut, four_pieces, one_piece, three_pieces, two_pieces};
+use crate::pieces::{four_pieces, one_piece, split_once, three_pieces, two_pieces};
 use crate::pools::{is_pool_name, pool_at};
 use crate::words::{byte_of, bytes_of, number_of, session_of};
 use std::alloc::Global;
@@ -126,7 +126,7 @@ fn does(pools: &[Name], pool: &[u8], command: Command) -> Said
     }
 }
 
-// `N` behind `session`.
+// `N` after `session`.
 #[tactic(auto, unfolding(crate::specs::Forms::session_spoken))]
 fn session_said(pools: &[Name], words: &[u8]) -> Option<Said>
     ensures { result ≡ said_in pools.now (session_spoken (pieces_between 32 words.now)) }
@@ -140,7 +140,7 @@ fn session_said(pools: &[Name], words: &[u8]) -> Option<Said>
     }
 }
 
-// `P/D` behind the word of a form on a dataset.
+// `P/D` after the word of a form on a dataset.
 #[tactic(auto, unfolding(crate::specs::Forms::dataset_spoken))]
 fn dataset_said(
     alloc: Global,
@@ -161,7 +161,7 @@ fn dataset_said(
     Ok(Some(does(pools, pool, command)))
 }
 
-// `P/D/F` behind the word of a form on a file.
+// `P/D/F` after the word of a form on a file.
 #[tactic(auto, unfolding(crate::specs::Forms::file_spoken))]
 fn file_said(
     alloc: Global,
@@ -183,7 +183,7 @@ fn file_said(
     Ok(Some(does(pools, pool, command)))
 }
 
-// `P/D/F FROM HEX` behind `write`.
+// `P/D/F FROM HEX` after `write`.
 #[tactic(auto, unfolding(crate::specs::Forms::write_spoken))]
 fn write_said(alloc: Global, pools: &[Name], words: &[u8]) -> Result<Option<Said>, NoMemory>
     ensures { IfOk result (λ said. said ≡ said_in pools.now (write_spoken (pieces_between 32 words.now))) }
@@ -211,7 +211,7 @@ fn write_said(alloc: Global, pools: &[Name], words: &[u8]) -> Result<Option<Said
     Ok(Some(does(pools, pool, command)))
 }
 
-// `P/D/F FROM LEN BYTE` behind `fill`.
+// `P/D/F FROM LEN BYTE` after `fill`.
 #[tactic(auto, unfolding(crate::specs::Forms::fill_spoken))]
 fn fill_said(alloc: Global, pools: &[Name], words: &[u8]) -> Result<Option<Said>, NoMemory>
     ensures { IfOk result (λ said. said ≡ said_in pools.now (fill_spoken (pieces_between 32 words.now))) }
@@ -243,7 +243,7 @@ fn fill_said(alloc: Global, pools: &[Name], words: &[u8]) -> Result<Option<Said>
     Ok(Some(does(pools, pool, command)))
 }
 
-// `P/D/F SIZE` behind `truncate`.
+// `P/D/F SIZE` after `truncate`.
 #[tactic(auto, unfolding(crate::specs::Forms::truncate_spoken))]
 fn truncate_said(alloc: Global, pools: &[Name], words: &[u8]) -> Result<Option<Said>, NoMemory>
     ensures { IfOk result (λ said. said ≡ said_in pools.now (truncate_spoken (pieces_between 32 words.now))) }
@@ -267,7 +267,7 @@ fn truncate_said(alloc: Global, pools: &[Name], words: &[u8]) -> Result<Option<S
     Ok(Some(does(pools, pool, command)))
 }
 
-// `P/D/F FROM LEN` behind `read`.
+// `P/D/F FROM LEN` after `read`.
 #[tactic(auto, unfolding(crate::specs::Forms::read_spoken))]
 fn read_said(alloc: Global, pools: &[Name], words: &[u8]) -> Result<Option<Said>, NoMemory>
     ensures { IfOk result (λ said. said ≡ said_in pools.now (read_spoken (pieces_between 32 words.now))) }
@@ -295,7 +295,7 @@ fn read_said(alloc: Global, pools: &[Name], words: &[u8]) -> Result<Option<Said>
     Ok(Some(does(pools, pool, command)))
 }
 
-// `P` behind `commit`.
+// `P` after `commit`.
 #[tactic(auto, unfolding(crate::specs::Forms::commit_spoken))]
 fn commit_said(pools: &[Name], words: &[u8]) -> Option<Said>
     ensures { result ≡ said_in pools.now (commit_spoken (pieces_between 32 words.now)) }
@@ -310,7 +310,7 @@ fn commit_said(pools: &[Name], words: &[u8]) -> Option<Said>
     }
 }
 
-// What the words behind the first say in a line of the form.
+// What the words after the first say in a line of the form.
 fn said_of_form(
     alloc: Global,
     pools: &[Name],
@@ -339,7 +339,7 @@ pub fn said_of(alloc: Global, pools: &[Name], line: &[u8]) -> Result<Option<Said
     ensures value { IfOk result (λ said. said ≡ said_of pools.now line.now) }
     ensures grammar { (said : Said) → (said_of pools.now line.now ≡ Some said) ↔ Spells pools.now line.now said }
 {
-    let Some((word, words)) = cut(b' ', line) else {
+    let Some((word, words)) = split_once(b' ', line) else {
         return Ok(None);
     };
     match form_of(word) {

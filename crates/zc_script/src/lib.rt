@@ -2,7 +2,7 @@
 //
 // A script is read whole before anything of it is done: each line is ignored, or asks for one act, or says whose the following
 // lines are, or is bad, and the first bad line refuses the script by its number. A line's first word says its form, and the form
-// says of what kinds the words behind it are; the forms are one table, in specs/Forms.antt and in forms.rt, and a line more is a
+// says of what kinds the words after it are; the forms are one table, in specs/Forms.antt and in forms.rt, and a line more is a
 // row more in both. Whether a line is in the grammar doesn't depend on the pools of the run: a line of a pool that isn't there is
 // read as that.
 //
@@ -17,8 +17,6 @@ mod pieces;
 mod pools;
 mod printing;
 mod script;
-#[cfg(test)]
-mod tests;
 mod words;
 
 pub use act::{Act, Line, Said};

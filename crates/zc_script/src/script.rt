@@ -49,7 +49,7 @@ fn place_of_end(bytes: &[u8]) -> Option<usize>
     bytes.iter().position(|byte| *byte == b'\n')
 }
 
-// The text of the first line of bytes that aren't none, and the bytes behind its end.
+// The text of the first line of bytes that aren't none, and the bytes after its end.
 fn first_text(bytes: &[u8]) -> (&[u8], &[u8])
     requires { 0 < length bytes.now }
     ensures texts { texts_of bytes.now ≡ result.0.now ∷ texts_of result.1.now }

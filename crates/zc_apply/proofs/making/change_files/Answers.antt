@@ -2,7 +2,7 @@
 use Rattle.std.proofs.Common.{◌≡◌, ◌∙◌, length, ap, arith}
 use Rattle.zc_heart.specs.Changes.{number_of_file}
 use Rattle.zc_apply.specs.InParts.{by_number, in_one_file}
-use Rattle.zc_apply.proofs.MappedLaws.{length_changed, one_more_changed, before_first, behind_last}
+use Rattle.zc_apply.proofs.MappedLaws.{length_changed, one_more_changed, before_first, after_last}
 use Rattle.zc_apply.proofs.making.change_files.Goals as goal
 
 pub loop-k-init : goal.loop-k-init
@@ -24,4 +24,4 @@ loop-k-preserved c =
 pub returns : goal.returns
 returns c =
     let within = rw c.as_slice.ensures at c.places_of-first.ensures in
-    behind_last c.args.files.now c.loop-k.files c.args.id c.places_of-first.result.0 c.places_of-first.result.1 c.loop-k.k (in_one_file c.args.change.now c.args.ptr) within c.loop-k-test.false c.loop-k.invariant
+    after_last c.args.files.now c.loop-k.files c.args.id c.places_of-first.result.0 c.places_of-first.result.1 c.loop-k.k (in_one_file c.args.change.now c.args.ptr) within c.loop-k-test.false c.loop-k.invariant

@@ -13,5 +13,5 @@ returns-clause-made c =
 pub returns-clause-still : goal.returns-clause-still
 returns-clause-still c = λ rise.
     let known = c.requires.known (c.still_rise-rise.ensures.was rise) in
-    let behind = rw c.as_slice.ensures at c.still_rise-rise.ensures.new_behind rise in
+    let behind = rw c.as_slice.ensures at c.still_rise-rise.ensures.new_after rise in
     subst (λ (tree : Tree). AreRising tree.datasets) (sym c.in_ok-make_change.ensures) (rising_changed c.args.change.now c.first_of.result c.args.tree.now (behind known) known)

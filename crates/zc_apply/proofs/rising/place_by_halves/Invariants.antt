@@ -2,7 +2,7 @@ use Rattle.std.proofs.Common.{ℕ, ◌-◌, ◌<◌, ◌≤◌, length, get_or}
 use Rattle.zc_tree.specs.declared.tree.File.{File}
 use Rattle.zc_apply.proofs.rising.place_by_halves.Given as goal
 
--- the numbers before the part that is left are below, and those behind it are above
+-- the numbers before the part that is left are below, and those after it are above
 abbrev pub invariant-loop-low : goal.invariant-loop-low
 invariant-loop-low l = record {
   ordered : l.low ≤ l.high;

@@ -1,5 +1,5 @@
 use Rattle.std.proofs.Common.{◌≡◌, ◌++◌, map, take}
-use Rattle.zc_state.specs.State.{place_of}
+use Rattle.zc_state.specs.State.{place_of_block}
 use Rattle.zc_group.specs.Committed.{found_of}
 use Rattle.zc_group.proofs.committing.taken_by.Given as goal
 
@@ -7,6 +7,6 @@ use Rattle.zc_group.proofs.committing.taken_by.Given as goal
 abbrev pub invariant-loop-at : goal.invariant-loop-at
 invariant-loop-at l = l.taken.items ≡ take l.at-index l.chain
 
--- and behind all of them those of the blocks so far
+-- and after all of them those of the blocks so far
 abbrev pub invariant-loop-block : goal.invariant-loop-block
-invariant-loop-block l = l.taken.items ≡ l.chain ++ map place_of (map found_of (take l.block-index l.new))
+invariant-loop-block l = l.taken.items ≡ l.chain ++ map place_of_block (map found_of (take l.block-index l.new))

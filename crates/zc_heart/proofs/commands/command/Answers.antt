@@ -1,4 +1,4 @@
--- What the answer's clauses say of the heart behind a command.
+-- What the answer's clauses say of the heart after a command.
 use Rattle.zc_heart.proofs.AnswerLaws.{replies, kept, unchanged}
 use Rattle.zc_heart.proofs.commands.command.Goals as goal
 

@@ -8,5 +8,5 @@ use Rattle.zc_heart.proofs.commands.truncate.Goals as goal
 pub set_size-requires-clause-charge : goal.set_size-requires-clause-charge
 set_size-requires-clause-charge c =
     let core = c.args.core.now in
-    let passed = charge_within c.unmade_cut-more.result core (sym c.refuse_charge.ensures ∙ c.in_default-refuse_charge.is) in
-    subst (λ (more : ℕ). charge core + more ≤ most_charge (pool_of core)) c.unmade_cut-more.ensures.value passed
+    let passed = charge_within c.unmade_trimmed-more.result core (sym c.refuse_charge.ensures ∙ c.in_default-refuse_charge.is) in
+    subst (λ (more : ℕ). charge core + more ≤ most_charge (pool_of core)) c.unmade_trimmed-more.ensures.value passed

@@ -1,7 +1,7 @@
 use Rattle.std.proofs.Common.{ℕ, ◌+◌, sym, subst}
 use Rattle.zc_heart.specs.Deeds.{SetSize, Becomes, IsLeft}
 use Rattle.zc_heart.proofs.StepLaws.{on_err_always}
-use Rattle.zc_heart.proofs.FileDeeds.{with_changed, with_room, becomes_cut, left_with_room}
+use Rattle.zc_heart.proofs.FileDeeds.{with_changed, with_room, becomes_trimmed, left_with_room}
 use Rattle.zc_heart.proofs.Ready.{changeable}
 use Rattle.zc_heart.proofs.making.set_size.Goals as goal
 
@@ -17,5 +17,5 @@ returns-in_err-truncate_in-clause-err c =
 pub returns-clause-ok : goal.returns-clause-ok
 returns-clause-ok c =
     let old = c.args.core.now in
-    subst (λ (more : ℕ). Becomes (SetSize c.args.number c.args.spot c.args.size) old (with_changed c.truncate_in.new.datasets c.truncate_in.new.stamps (old.made + more) c.args.number old)) (sym c.unmade_cut-made.ensures.value)
-    (becomes_cut c.args.spot c.args.number c.args.size c.truncate_in.new.datasets c.truncate_in.new.stamps old c.requires.core c.in_ok-truncate_in.ensures.ok c.in_ok-truncate_in.ensures.noted c.requires.number c.requires.ends c.requires.charge)
+    subst (λ (more : ℕ). Becomes (SetSize c.args.number c.args.spot c.args.size) old (with_changed c.truncate_in.new.datasets c.truncate_in.new.stamps (old.made + more) c.args.number old)) (sym c.unmade_trimmed-made.ensures.value)
+    (becomes_trimmed c.args.spot c.args.number c.args.size c.truncate_in.new.datasets c.truncate_in.new.stamps old c.requires.core c.in_ok-truncate_in.ensures.ok c.in_ok-truncate_in.ensures.noted c.requires.number c.requires.ends c.requires.charge)

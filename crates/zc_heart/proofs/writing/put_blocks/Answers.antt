@@ -2,7 +2,7 @@
 use Rattle.std.proofs.Common.{◌≡◌, ℕ, ◌+◌, ◌-◌, ◌==◌, [], length, get_or, sym, ap, subst, ◌∙◌, arith}
 use Rattle.zc_plain.specs.declared.plain_pool.PlainBlock.TheVariants.{Made}
 use Rattle.zc_heart.specs.File.{Marks}
-use Rattle.zc_heart.specs.Steps.{PutsAll, Sets, IsFresh}
+use Rattle.zc_heart.specs.Steps.{PutsAll, Sets, AreUnused}
 use Rattle.zc_heart.proofs.PartLaws.{front_is, last_is, longer_is}
 use Rattle.zc_heart.proofs.WriteLaws.{puts_more}
 use Rattle.zc_heart.proofs.writing.put_blocks.Goals as goal
@@ -38,5 +38,5 @@ loop-bytes-preserved c =
           let room = before.room k from (omega (arith, until, next)) in
           (sets.room k (λ same. absurd (omega (arith, same, until))) room.0, sets.mark_room k (λ same. absurd (omega (arith, same, until))) room.1);
       stamp_room = λ k from until. c.put_block.ensures.rooms k (omega (arith, until, at)) (before.stamp_room k from (omega (arith, until, next)));
-      fresh = subst (λ (n : ℕ). IsFresh number n c.put_block.new.stamps) at c.put_block.ensures.fresh;
+      fresh = subst (λ (n : ℕ). AreUnused number n c.put_block.new.stamps) at c.put_block.ensures.fresh;
     }

@@ -1,6 +1,6 @@
 use Rattle.std.proofs.Common.{◌≡◌, map}
 use Rattle.zc_num.specs.Words.{each}
-use Rattle.zc_spacemap.specs.Held.{states_of}
+use Rattle.zc_spacemap.specs.MapStates.{states_of}
 use Rattle.zc_next.proofs.ExactMaps.{states_on}
 use Rattle.zc_next.proofs.exact.exact_maps.Given as goal
 

@@ -1,5 +1,5 @@
 use Rattle.std.proofs.Common.{◌+◌, take, arith, rules}
-use Rattle.zc_io.specs.Stream.{Gives}
+use Rattle.zc_io.specs.Stream.{GivesFront}
 use Rattle.zc_prog.specs.Input.{most_bytes}
 use Rattle.zc_prog.proofs.Streams.{gives_more, gives_nothing, gave_length}
 use Rattle.zc_prog.proofs.input.read_script.Goals as goal
@@ -10,7 +10,7 @@ returns-then-n-eq0-clause-ok g c =
     let first = left c.args.source.now in
     let old = left c.loop-source.source in
     let new = left c.read_piece.new.source in
-    let given : Gives old new (take c.in_ok-n.n c.read_piece.new.piece) = c.in_ok-n.ensures.given in
+    let given : GivesFront old new (take c.in_ok-n.n c.read_piece.new.piece) = c.in_ok-n.ensures.given in
     record {
       given = rw c.in_ok-n.ensures.added (gives_more first old new c.loop-source.script.items _ c.loop-source.invariant.told c.loop-source.invariant.given given);
       end = λ told. gives_nothing old new _ (rw c.loop-source.invariant.told told) (c.in_ok-n.ensures.end c.if-n-eq0.true (rw c.loop-source.invariant.told told)) given;

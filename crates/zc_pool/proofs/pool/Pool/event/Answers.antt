@@ -2,7 +2,7 @@
 use Rattle.std.proofs.Common.{refl, sym, subst}
 use Rattle.zc_tape.specs.Tape.{Shape}
 use Rattle.zc_pool.specs.declared.event.Event.{Event}
-use Rattle.zc_pool.specs.Answers.{MayAsk}
+use Rattle.zc_pool.specs.EventAnswers.{MayAsk}
 use Rattle.zc_pool.specs.Running.{IsPool}
 use Rattle.zc_pool.specs.declared.event.Event.TheVariants as kind
 use Rattle.zc_pool.proofs.EventLaws.{acks_made, acks_stepped}

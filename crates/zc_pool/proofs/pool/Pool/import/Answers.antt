@@ -1,5 +1,5 @@
 -- What is kept in memory is what was taken up.
-use Rattle.zc_pool.proofs.OpeningLaws.{imported_new, imported_pool, imported_opened, begun_survives, before_writes}
+use Rattle.zc_pool.proofs.OpeningLaws.{imported_new, imported_acks, imported_pool, imported_opened, begun_survives, before_writes}
 use Rattle.zc_pool.proofs.pool.Pool.import.Goals as goal
 
 pub returns-in-Ok-hold-clause-pool : goal.returns-in-Ok-hold-clause-pool
@@ -10,6 +10,9 @@ returns-in-Ok-hold-clause-pool g c =
 
 pub returns-in-Ok-hold-clause-new : goal.returns-in-Ok-hold-clause-new
 returns-in-Ok-hold-clause-new g c = imported_new c.in-Ok.imported c.in-Ok-hold.kept c.in-Ok-hold.ensures.kept
+
+pub returns-in-Ok-hold-clause-acks : goal.returns-in-Ok-hold-clause-acks
+returns-in-Ok-hold-clause-acks g c = imported_acks c.in-Ok.imported c.in-Ok-hold.kept c.in-Ok-hold.ensures.kept
 
 pub returns-in-Ok-hold-clause-opened : goal.returns-in-Ok-hold-clause-opened
 returns-in-Ok-hold-clause-opened g c told rests =

@@ -5,7 +5,7 @@ use Rattle.std.proofs.lemmas.List.{length_push}
 use Rattle.std.specs.Vec.Iter.{into_iter_items}
 use Rattle.zc_tape.proofs.Extends.{extends_trans}
 use Rattle.zc_pool.specs.declared.event.Event.{Event}
-use Rattle.zc_pool.specs.Answers.{MayAsk}
+use Rattle.zc_pool.specs.EventAnswers.{MayAsk}
 use Rattle.zc_pool.proofs.RunningLaws.{goes_further}
 use Rattle.zc_pool.proofs.EventLaws.{makes_more, ran_to}
 use Rattle.zc_pool.proofs.pool.Pool.run.Goals as goal

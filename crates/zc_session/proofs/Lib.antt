@@ -1,5 +1,0 @@
-pub mod AckedLaws
-pub mod AnswerLaws
-pub mod EndLaws
-pub mod EntryLaws
-pub mod GoesLaws

@@ -1,5 +1,0 @@
-pub mod Ending
-pub mod Midway
-pub mod Played
-pub mod Session
-pub mod Survives
