@@ -11,7 +11,7 @@ use zc_apply::{count_made, next_tree};
 use zc_blkptr::Ptr;
 use zc_command::{Command, Reply};
 use zc_heart::{Change, GroupDone, Heart};
-use zc_num::{Limits, Listed, NoMemory};
+use zc_num::{Limits, Listed, NoMemory, Queue};
 use zc_plain::{Entry, Plain};
 use zc_tree::Tree;
 
@@ -22,7 +22,7 @@ pub struct Both {
     pub plain: Plain,
     pub tree: Tree,
     /// The sealed groups that the heart didn't take in, in order.
-    pub waiting: Listed<GroupDone>,
+    pub waiting: Queue<GroupDone>,
     /// The place that the last block took.
     place: u32,
 }
@@ -52,7 +52,7 @@ pub fn empty(alloc: Global) -> Result<Both, Fail> {
         heart: empty_heart(alloc, limits)?,
         plain: Plain::start(alloc, limits),
         tree: empty_tree(alloc),
-        waiting: Listed::new(alloc),
+        waiting: Queue::new(alloc),
         place: 67,
     })
 }
